@@ -1,0 +1,172 @@
+-- Document 01, "On the edge, both sides": P1 to P14, and the worked example of "The trail", computed by the rules. One table, one
+-- test, one theorem.
+-- Assumes nothing.
+use Prim.Native.Nat.{ℕ, zero, suc, _+_}
+use mathlib.Core.Path.{_≡_, refl}
+use mathlib.Core.Bool.{Bool, true, false, _&&_}
+use mathlib.Core.Option.{Option, none, some}
+use mathlib.Core.List.{List, [], _∷_, _++_}
+use lib.Dec.{eqb}
+use lib.ListN.{length, take, replicate}
+use Rattle.rules.specs.Choose.{choose}
+use Rattle.rules.specs.Answers.{code}
+use Rattle.rules.specs.Bytes.{le, leAt, bytesOf, swap16, part, inside, splice, bit}
+use Rattle.rules.specs.Ring.{zeroRing, distance, outstanding, advance, baseRefusal, baseEffect, powerUpTo, sizeRefusal, sizeEffect, headRefusal, headEffect, creditsRefusal, creditsEffect, creditsInterrupt, ctrlEffect, nextSlot, completeEffect, completeInterrupt}
+use Rattle.rules.specs.Registers.{registerAt, isWide, upperOf, narrowAt, coveredBy, wideAt, access, accessRefusal, valueOf, readValue, portBits, withRing, withLinks, withTest, withTest64, withEnable, freshRegisters, resetRegisters, sets, store, latchOf, baseLatched, latchEffect, taken, joined, writeTo, unlessRefused as unlessWriteRefused, write, readRefusal, read, portCountAllowed, portAllowed}
+use Rattle.rules.specs.Descriptor.{descriptorAt, descriptor, completionAt, fetch}
+use Rattle.rules.specs.Region.{valueSize, filled, tlvAt, stepAt, walk, tlvs, endOf, wellFormed, fitsWidth, meet, scan, lookup}
+use Rattle.rules.specs.Fields.{rows, memberWidth, ruleIn, ruleOf, field, isAt, numberIn, nestIn, given, value, right, hasUser, fieldRight, everyBelow, fieldsRight}
+use Rattle.rules.specs.GroupId.{groupType, groupVlan, groupLow, vlanAllowed, hasMembers, groupIdAllowed, memberId}
+use Rattle.rules.specs.Members.{elem, memberRight, collect, membersIn, membersRight, pad}
+use Rattle.rules.specs.Decode.{refused, carried, need, matchOf, flowOf, groupFits, newVlanFits, matchAllowed, flowUser, isTable, flowIn, flowKeyIn, groupOf, membersOf, groupAllowed, groupUser, groupIn, groupKeyIn, isCommand, commandIn, commandType, commandInfo, decode}
+use Rattle.rules.specs.Keyed.{place, holds, find, insert, replace, remove}
+use Rattle.rules.specs.Tables.{Tables, Executed, storedFlow, flowEntry, groupEntry, cookieOf, idOf, emptyTables, addStatus, heldStatus, commandStatus, withFlows, withGroups, commandEffect, decodedStatus, decodedEffect, executed, carryOut, execute}
+use Rattle.rules.specs.Journal.{completion, header, recordOf, begin, ready, stopped, headerRefusal as markRefusal, headerRead, isUnread, recordAgrees, tablesAfter, recordRead, whole, feed, feeds, endsIn, finished, finish, replay, digits, decimal, item, line, report}
+use Rattle.rules.specs.Switch.{Switch, Borrowed, Result, freshSwitch, unchanged, unlessRefused, readEffect, writeEffect, carry, carriedSlot, slotRecord, processRefusal, processEffect, headerRefusal, headed, refusal, effect, step}
+use Rattle.rules.specs.declared.Ring.{Ring}
+use Rattle.rules.specs.declared.Registers.{Registers}
+use Rattle.rules.specs.declared.Request.{Request}
+use Rattle.rules.specs.declared.Request.the-variants.{Read, Write, Process, Header}
+
+-- ---- What the points are computed from
+
+-- a switch of so many ports whose ring is r
+switchWith : ℕ → Ring → Switch
+switchWith ports r = record { registers = withRing (freshRegisters ports 0) r; tables = emptyTables }
+
+-- "ring 8, HEAD 5, TAIL 2" with so many credits
+ring8 : ℕ → Ring
+ring8 credits = record { «base_addr» = 0; «base_latch» = 0; size = 8; head = 5; tail = 2; credits = credits }
+
+-- nothing borrowed
+nothing : Borrowed
+nothing = record { memory = []; frame = []; buffer = []; list = [] }
+
+bool : Bool → ℕ
+bool b = choose b 1 0
+
+-- a write of HEAD: answer, slots outstanding after it, slots that it posted
+headWrite : ℕ → List ℕ
+headWrite v =
+    let r = step (switchWith 4 (ring8 0)) nothing (Write 0x100c 4 v) in
+    r .answer ∷ outstanding (r .switch .registers .ring) ∷ choose (eqb (r .answer) 0) (advance (ring8 0) v) 0 ∷ []
+
+-- a write of SIZE: answer
+sizeWrite : ℕ → List ℕ
+sizeWrite v = step (switchWith 4 (ring8 0)) nothing (Write 0x1008 4 v) .answer ∷ []
+
+-- a write of TEST_REG: what is read then
+testWrite : ℕ → List ℕ
+testWrite v = step (step (switchWith 4 zeroRing) nothing (Write 0x0010 4 v) .switch) nothing (Read 0x0010 4) .value ∷ []
+
+-- a write of CREDITS, of which there are 3: answer, credits left, vector 0
+creditsWrite : ℕ → List ℕ
+creditsWrite n =
+    let r = step (switchWith 4 (ring8 3)) nothing (Write 0x1018 4 n) in
+    r .answer ∷ r .switch .registers .ring .credits ∷ bool (r .interrupt) ∷ []
+
+-- "This payload adds a group on a 4-port device"
+payload : List ℕ
+payload =
+    0x01 ∷ 0x00 ∷ 0x00 ∷ 0x00 ∷ 0x02 ∷ 0x00 ∷ 0x00 ∷ 0x00 ∷ 0x07 ∷ 0x00 ∷ 0x00 ∷ 0x00 ∷ 0x00 ∷ 0x00 ∷ 0x00 ∷ 0x00
+    ∷ 0x02 ∷ 0x00 ∷ 0x00 ∷ 0x00 ∷ 0x30 ∷ 0x00 ∷ 0x00 ∷ 0x00
+    ∷ 0x0A ∷ 0x00 ∷ 0x00 ∷ 0x00 ∷ 0x04 ∷ 0x00 ∷ 0x00 ∷ 0x00 ∷ 0x02 ∷ 0x00 ∷ 0x05 ∷ 0x00 ∷ 0x00 ∷ 0x00 ∷ 0x00 ∷ 0x00
+    ∷ 0x08 ∷ 0x00 ∷ 0x00 ∷ 0x00 ∷ 0x04 ∷ 0x00 ∷ 0x00 ∷ 0x00 ∷ 0x02 ∷ 0x00 ∷ 0x00 ∷ 0x00 ∷ 0x00 ∷ 0x00 ∷ 0x00 ∷ 0x00
+    ∷ 0x2B ∷ 0x00 ∷ 0x00 ∷ 0x00 ∷ 0x01 ∷ 0x00 ∷ 0x00 ∷ 0x00 ∷ 0x01 ∷ 0x00 ∷ 0x00 ∷ 0x00 ∷ 0x00 ∷ 0x00 ∷ 0x00 ∷ 0x00
+    ∷ []
+
+-- a payload carried out: status, flows, groups
+run : ℕ → List ℕ → Tables → List ℕ
+run ports p t =
+    let e = execute ports p t in
+    code (e .status) ∷ length (e .tables .flows) ∷ length (e .tables .groups) ∷ []
+
+-- ring of 2 at address 0 with slot 0 posted; its descriptor, the payload after it at 64
+posted : Ring
+posted = record { «base_addr» = 0; «base_latch» = 0; size = 2; head = 1; tail = 0; credits = 0 }
+
+memory : List ℕ
+memory = bytesOf 8 64 ++ (bytesOf 8 0 ++ (bytesOf 2 72 ++ (bytesOf 2 72 ++ (replicate 44 0 ++ payload))))
+
+at-work : Borrowed
+at-work = record { memory = memory; frame = []; buffer = replicate 80 7; list = [] }
+
+-- that slot processed: answer, completion, length, vector 0, and the buffer
+worked : List ℕ
+worked =
+    let r = step (switchWith 4 posted) at-work Process in
+    r .answer ∷ r .completed ∷ r .length ∷ bool (r .interrupt) ∷ r .buffer
+
+-- "From slot 0 its trail is `52 4B 54 01 00 04 00 80 48 00 00 00` and these 72 bytes."
+journal : List ℕ
+journal = 0x52 ∷ 0x4B ∷ 0x54 ∷ 0x01 ∷ 0x00 ∷ 0x04 ∷ 0x00 ∷ 0x80 ∷ 0x48 ∷ 0x00 ∷ 0x00 ∷ 0x00 ∷ payload
+
+-- header call and process call, one after the other
+written : List ℕ
+written =
+    let h = step (switchWith 4 posted) at-work Header in
+    let r = step (switchWith 4 posted) at-work Process in
+    take (h .length) (h .buffer) ++ take (r .length) (r .buffer)
+
+-- "ports 4", "lines 1", "charged 1", "flows 0", "groups 1"
+five : List ℕ
+five =
+    112 ∷ 111 ∷ 114 ∷ 116 ∷ 115 ∷ 32 ∷ 52 ∷ 10
+    ∷ 108 ∷ 105 ∷ 110 ∷ 101 ∷ 115 ∷ 32 ∷ 49 ∷ 10
+    ∷ 99 ∷ 104 ∷ 97 ∷ 114 ∷ 103 ∷ 101 ∷ 100 ∷ 32 ∷ 49 ∷ 10
+    ∷ 102 ∷ 108 ∷ 111 ∷ 119 ∷ 115 ∷ 32 ∷ 48 ∷ 10
+    ∷ 103 ∷ 114 ∷ 111 ∷ 117 ∷ 112 ∷ 115 ∷ 32 ∷ 49 ∷ 10
+    ∷ []
+
+-- "refused 14 line 2"
+one : List ℕ
+one = 114 ∷ 101 ∷ 102 ∷ 117 ∷ 115 ∷ 101 ∷ 100 ∷ 32 ∷ 49 ∷ 52 ∷ 32 ∷ 108 ∷ 105 ∷ 110 ∷ 101 ∷ 32 ∷ 50 ∷ 10 ∷ []
+
+-- the record a second time: the group is there already, so OK disagrees
+again : List ℕ
+again = journal ++ (0x00 ∷ 0x80 ∷ 0x48 ∷ 0x00 ∷ 0x00 ∷ 0x00 ∷ payload)
+
+-- ---- The table
+
+record Point : Type 0 where
+  seen : List ℕ
+  expected : List ℕ
+
+point : List ℕ → List ℕ → Point
+point seen expected = record { seen = seen; expected = expected }
+
+points : List Point
+points =
+    point (headWrite 1) (0 ∷ 7 ∷ 4 ∷ [])  -- P1
+    ∷ point (headWrite 2) (2 ∷ 3 ∷ 0 ∷ [])  -- P2
+    ∷ point (headWrite 5) (0 ∷ 3 ∷ 0 ∷ [])  -- P3
+    ∷ point (headWrite 8) (2 ∷ 3 ∷ 0 ∷ [])  -- P4
+    ∷ point (sizeWrite 65536) (0 ∷ [])  -- P5
+    ∷ point (sizeWrite 3) (2 ∷ [])  -- P6
+    ∷ point (testWrite 0x80000001) (0x00000002 ∷ [])  -- P7
+    ∷ point (creditsWrite 4) (2 ∷ 3 ∷ 0 ∷ [])  -- P8
+    ∷ point (creditsWrite 3) (0 ∷ 0 ∷ 0 ∷ [])  -- P9
+    ∷ point (bool (wellFormed (99 ∷ replicate 7 0)) ∷ []) (1 ∷ [])  -- P10
+    ∷ point (bool (wellFormed (99 ∷ replicate 11 0)) ∷ []) (0 ∷ [])  -- P11
+    ∷ point (run 4 payload emptyTables) (0 ∷ 0 ∷ 1 ∷ [])  -- P12
+    ∷ point (run 4 payload (execute 4 payload emptyTables .tables)) (17 ∷ 0 ∷ 1 ∷ [])  -- P13
+    ∷ point (run 1 payload emptyTables) (22 ∷ 0 ∷ 0 ∷ [])  -- P14
+    ∷ point worked (0 ∷ 0x8000 ∷ 78 ∷ 1 ∷ (0x00 ∷ 0x80 ∷ 0x48 ∷ 0x00 ∷ 0x00 ∷ 0x00 ∷ payload) ++ (7 ∷ 7 ∷ []))
+    ∷ point written journal
+    ∷ point (report (replay journal)) five
+    ∷ point (report (replay again)) one
+    ∷ []
+
+same : List ℕ → List ℕ → Bool
+same [] [] = true
+same [] (b ∷ ys) = false
+same (a ∷ xs) [] = false
+same (a ∷ xs) (b ∷ ys) = eqb a b && same xs ys
+
+all : List Point → Bool
+all [] = true
+all (p ∷ ps) = same (p .seen) (p .expected) && all ps
+
+points-hold : all points ≡ true
+unfolding points point all same switchWith ring8 nothing bool headWrite sizeWrite testWrite creditsWrite payload run posted memory at-work worked journal written five one again code le leAt bytesOf swap16 part inside splice bit zeroRing distance outstanding advance baseRefusal baseEffect powerUpTo sizeRefusal sizeEffect headRefusal headEffect creditsRefusal creditsEffect creditsInterrupt ctrlEffect nextSlot completeEffect completeInterrupt registerAt isWide upperOf narrowAt coveredBy wideAt access accessRefusal valueOf readValue portBits withRing withLinks withTest withTest64 withEnable freshRegisters resetRegisters sets store latchOf baseLatched latchEffect taken joined writeTo unlessWriteRefused write readRefusal read portCountAllowed portAllowed descriptorAt descriptor completionAt fetch valueSize filled tlvAt stepAt walk tlvs endOf wellFormed fitsWidth meet scan lookup rows memberWidth ruleIn ruleOf field isAt numberIn nestIn given value right hasUser fieldRight everyBelow fieldsRight groupType groupVlan groupLow vlanAllowed hasMembers groupIdAllowed memberId elem memberRight collect membersIn membersRight pad refused carried need matchOf flowOf groupFits newVlanFits matchAllowed flowUser isTable flowIn flowKeyIn groupOf membersOf groupAllowed groupUser groupIn groupKeyIn isCommand commandIn commandType commandInfo decode place holds find insert replace remove storedFlow flowEntry groupEntry emptyTables addStatus heldStatus commandStatus withFlows withGroups commandEffect decodedStatus decodedEffect executed carryOut execute completion header recordOf begin ready stopped markRefusal headerRead isUnread recordAgrees tablesAfter recordRead whole feed feeds endsIn finished finish replay digits decimal item line report freshSwitch unchanged unlessRefused readEffect writeEffect carry carriedSlot slotRecord processRefusal processEffect headerRefusal headed refusal effect step
+points-hold = refl

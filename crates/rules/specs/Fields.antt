@@ -1,0 +1,135 @@
+-- "TLV regions and commands": the table of fields, and a command's fields looked up by it.
+use Prim.Native.Nat.{ℕ, zero, suc, _+_}
+use mathlib.Core.Bool.{Bool, true, false, not, _&&_}
+use mathlib.Core.List.{List, [], _∷_}
+use lib.ListN.{drop}
+use lib.Dec.{leb, eqb}
+use lib.Bits.{bitAnd}
+use Rattle.rules.specs.Choose.{choose}
+use Rattle.rules.specs.Bytes.{leAt, part}
+use Rattle.rules.specs.Region.{lookup}
+use Rattle.rules.specs.declared.FieldRule.{FieldRule}
+use Rattle.rules.specs.declared.Found.{Found}
+use Rattle.rules.specs.declared.Found.the-variants.{Absent, At, Fault}
+
+-- Who uses a field, a bit each: flow add and mod by table; flow del; group add and mod of type 0, and of types 3 and 4; group del.
+-- ""Listed" inside CMD_INFO means used by that command and table or group type. Del reads only its key."
+abbrev pub flow0 : ℕ
+flow0 = 1
+
+abbrev pub flow10 : ℕ
+flow10 = 2
+
+abbrev pub flow50 : ℕ
+flow50 = 4
+
+abbrev pub flowDel : ℕ
+flowDel = 8
+
+abbrev pub group0 : ℕ
+group0 = 16
+
+abbrev pub groupMany : ℕ
+groupMany = 32
+
+abbrev pub groupDel : ℕ
+groupDel = 64
+
+abbrev pub flowAny : ℕ
+flowAny = flow0 + flow10 + flow50
+
+abbrev pub groupAny : ℕ
+groupAny = group0 + groupMany + groupDel
+
+pub record Row : Type 0 where
+  pub kind : ℕ
+  pub width : ℕ
+  pub uses : ℕ
+  pub needs : ℕ
+
+abbrev pub row : ℕ → ℕ → ℕ → ℕ → Row
+row t w u n = record { kind = t; width = w; uses = u; needs = n }
+
+-- The paper's table: type and width (0: nest); then who uses the field and who requires it, from the paragraphs below the table
+unfoldable pub rows : List Row
+rows =
+    row 1 2 flowAny flowAny  -- TBL
+    ∷ row 2 4 flowAny flowAny  -- PRIORITY
+    ∷ row 3 4 flowAny 0  -- HARDTIME
+    ∷ row 4 4 flowAny 0  -- IDLETIME
+    ∷ row 5 8 (flowAny + flowDel) (flowAny + flowDel)  -- COOKIE
+    ∷ row 6 4 (flow0 + flow10) (flow0 + flow10)  -- IN_PPORT
+    ∷ row 7 4 flow0 flow0  -- IN_PPORT_MASK
+    ∷ row 8 4 group0 group0  -- OUT_PPORT
+    ∷ row 9 2 flowAny flowAny  -- GOTO_TBL
+    ∷ row 10 4 (flow50 + groupAny) groupAny  -- GROUP_ID
+    ∷ row 12 2 groupMany groupMany  -- GROUP_COUNT
+    ∷ row 13 0 groupMany groupMany  -- GROUP_IDS
+    ∷ row 14 2 (flow10 + flow50) (flow10 + flow50)  -- VLAN_ID
+    ∷ row 19 2 flow10 0  -- NEW_VLAN_ID
+    ∷ row 24 6 flow50 0  -- DST_MAC
+    ∷ row 43 1 group0 group0  -- POP_VLAN
+    ∷ []
+
+-- "GROUP_IDS whose k-th TLV, k from 1, has type k and width 4"; at most 62 members
+unfoldable pub memberWidth : ℕ → ℕ
+memberWidth t = choose (leb 1 t && leb t 62) 4 0
+
+-- the row of a type; one that is not listed is used by nobody
+unfoldable pub ruleIn : ℕ → List Row → FieldRule
+ruleIn t [] = record { width = 0; uses = 0; needs = 0; «member_width» = memberWidth t }
+ruleIn t (r ∷ rs) =
+    choose (eqb (r .kind) t) (record { width = r .width; uses = r .uses; needs = r .needs; «member_width» = memberWidth t }) (ruleIn t rs)
+
+unfoldable pub ruleOf : ℕ → FieldRule
+ruleOf t = ruleIn t rows
+
+-- a field of CMD_INFO, looked up at its width
+unfoldable pub field : List ℕ → ℕ → Found
+field s t = lookup s t (ruleOf t .width)
+
+unfoldable pub isAt : Found → Bool
+isAt Absent = false
+isAt (At a n) = true
+isAt Fault = false
+
+-- the number of a value of w bytes, 0 where there is none
+unfoldable pub numberIn : List ℕ → ℕ → Found → ℕ
+numberIn s w Absent = 0
+numberIn s w (At a n) = leAt w s a
+numberIn s w Fault = 0
+
+-- the region in a value, empty where there is none
+unfoldable pub nestIn : List ℕ → Found → List ℕ
+nestIn s Absent = []
+nestIn s (At a n) = part n s a
+nestIn s Fault = []
+
+-- a field stands there once at its width, and its number
+unfoldable pub given : List ℕ → ℕ → Bool
+given s t = isAt (field s t)
+
+unfoldable pub value : List ℕ → ℕ → ℕ
+value s t = numberIn s (ruleOf t .width) (field s t)
+
+-- what was found of a field is right for one who needs it or not
+unfoldable pub right : Bool → Found → Bool
+right needed Absent = not needed
+right needed (At a n) = true
+right needed Fault = false
+
+-- a bit of a row's set of users
+unfoldable pub hasUser : ℕ → ℕ → Bool
+hasUser set who = not (eqb (bitAnd set who) 0)
+
+-- who uses a field finds it right; a field that it does not use is skipped
+unfoldable pub fieldRight : List ℕ → ℕ → ℕ → Bool
+fieldRight s who t = choose (hasUser (ruleOf t .uses) who) (right (hasUser (ruleOf t .needs) who) (field s t)) true
+
+unfoldable pub everyBelow : ℕ → (ℕ → Bool) → Bool
+everyBelow zero f = true
+everyBelow (suc n) f = f n && everyBelow n f
+
+-- every field of the table is right for who reads the region: none "missing, repeated" or of another width
+unfoldable pub fieldsRight : List ℕ → ℕ → Bool
+fieldsRight s who = everyBelow 44 (fieldRight s who)

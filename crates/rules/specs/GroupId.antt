@@ -1,0 +1,29 @@
+-- "A group ID holds type in bits 31 to 28, VLAN (1 to 4094) in 27 to 16, port or index in 15 to 0."
+use Prim.Native.Nat.{ℕ, _+_, _*_, _/_, _%_, _^_}
+use mathlib.Core.Bool.{Bool, _&&_, _||_}
+use lib.Dec.{leb, eqb}
+
+unfoldable pub groupType : ℕ → ℕ
+groupType id = id / 2 ^ 28
+
+unfoldable pub groupVlan : ℕ → ℕ
+groupVlan id = id / 2 ^ 16 % 2 ^ 12
+
+unfoldable pub groupLow : ℕ → ℕ
+groupLow id = id % 2 ^ 16
+
+-- 1 to 4094
+unfoldable pub vlanAllowed : ℕ → Bool
+vlanAllowed v = leb 1 v && leb v 4094
+
+-- types 3 and 4, whose groups have members
+unfoldable pub hasMembers : ℕ → Bool
+hasMembers t = eqb t 3 || eqb t 4
+
+-- "Other types or VLANs are EINVAL, also in del, which doesn't look at the low bits' range."
+unfoldable pub groupIdAllowed : ℕ → Bool
+groupIdAllowed id = (eqb (groupType id) 0 || hasMembers (groupType id)) && vlanAllowed (groupVlan id)
+
+-- the ID of the group of type 0 with a VLAN and low bits
+unfoldable pub memberId : ℕ → ℕ → ℕ
+memberId vlan low = vlan * 2 ^ 16 + low

@@ -1,0 +1,45 @@
+-- Lists of entries in rising order of a key: look up, insert, replace, remove. For any entry and any key.
+use Prim.Native.Nat.{ℕ, suc, zero, _<_}
+use mathlib.Core.Bool.{Bool, true, false}
+use mathlib.Core.Option.{Option, none, some}
+use mathlib.Core.List.{List, [], _∷_}
+use lib.Dec.{ltb, eqb}
+use Rattle.rules.specs.Choose.{choose}
+
+module _ {A : Type 0} (key : A → ℕ) where
+  -- how many entries stand before a key's place
+  unfoldable pub place : ℕ → List A → ℕ
+  place k [] = 0
+  place k (e ∷ es) = choose (ltb (key e) k) (suc (place k es)) 0
+
+  -- whether the key stands at its place
+  unfoldable pub holds : ℕ → List A → Bool
+  holds k [] = false
+  holds k (e ∷ es) = choose (ltb (key e) k) (holds k es) (eqb (key e) k)
+
+  -- the entry with a key
+  unfoldable pub find : ℕ → List A → Option A
+  find k [] = none
+  find k (e ∷ es) = choose (ltb (key e) k) (find k es) (choose (eqb (key e) k) (some e) none)
+
+  unfoldable pub insert : A → List A → List A
+  insert e [] = e ∷ []
+  insert e (g ∷ gs) = choose (ltb (key g) (key e)) (g ∷ insert e gs) (e ∷ g ∷ gs)
+
+  unfoldable pub replace : A → List A → List A
+  replace e [] = []
+  replace e (g ∷ gs) = choose (ltb (key g) (key e)) (g ∷ replace e gs) (choose (eqb (key g) (key e)) (e ∷ gs) (g ∷ gs))
+
+  unfoldable pub remove : ℕ → List A → List A
+  remove k [] = []
+  remove k (g ∷ gs) = choose (ltb (key g) k) (g ∷ remove k gs) (choose (eqb (key g) k) gs (g ∷ gs))
+
+  -- every key of the list is above k
+  abbrev pub Above : ℕ → List A → Type 0
+  Above k [] = Unit
+  Above k (e ∷ es) = (k < key e) × Above k es
+
+  -- strictly rising keys: in order, and no two alike
+  abbrev pub Rising : List A → Type 0
+  Rising [] = Unit
+  Rising (e ∷ es) = Above (key e) es × Rising es

@@ -1,0 +1,51 @@
+-- "Types 3 and 4: GROUP_COUNT 1 to 62, and GROUP_IDS whose k-th TLV, k from 1, has type k and width 4, none skipped; as many as the
+-- count, distinct, type 0, same VLAN."
+use Prim.Native.Nat.{ℕ, _+_, _-_}
+use mathlib.Core.Bool.{Bool, true, false, not, _&&_, _||_}
+use mathlib.Core.List.{List, [], _∷_, _++_}
+use lib.ListN.{length, replicate}
+use lib.Dec.{ltb, leb, eqb}
+use Rattle.rules.specs.Choose.{choose}
+use Rattle.rules.specs.Bytes.{leAt}
+use Rattle.rules.specs.Region.{tlvs, wellFormed}
+use Rattle.rules.specs.Fields.{ruleOf}
+use Rattle.rules.specs.GroupId.{groupType, groupVlan, groupLow}
+use Rattle.rules.specs.declared.Tlv.{Tlv}
+use Rattle.rules.specs.declared.FieldRule.{FieldRule}
+
+unfoldable pub elem : ℕ → List ℕ → Bool
+elem x [] = false
+elem x (y ∷ ys) = eqb y x || elem x ys
+
+-- The TLV after n members is a member of a group with this VLAN: type n + 1, at most 62, the width that the field table gives that
+-- type, an ID of type 0 with the VLAN; and its low bits are not among those before it. (Two IDs of one type and VLAN are distinct
+-- exactly if their low bits are.)
+unfoldable pub memberRight : ℕ → ℕ → Tlv → ℕ → Bool → Bool
+memberRight vlan n x id there =
+    ltb n 62 && eqb (x .kind) (n + 1) && eqb (x .size) (ruleOf (n + 1) .«member_width»)
+    && eqb (groupType id) 0 && eqb (groupVlan id) vlan && not there
+
+-- Members collected: whether every TLV was right, and the low bits of those collected
+pub record Collected : Type 0 where
+  pub right : Bool
+  pub lows : List ℕ
+
+-- the members that TLVs of a region add to those before them
+unfoldable pub collect : List ℕ → ℕ → List ℕ → List Tlv → Collected
+collect s vlan before [] = record { right = true; lows = before }
+collect s vlan before (x ∷ xs) =
+    choose (memberRight vlan (length before) x (leAt 4 s (x .start)) (elem (groupLow (leAt 4 s (x .start))) before))
+    (collect s vlan (before ++ (groupLow (leAt 4 s (x .start)) ∷ [])) xs)
+    (record { right = false; lows = [] })
+
+-- the members in GROUP_IDS
+unfoldable pub membersIn : List ℕ → ℕ → Collected
+membersIn s vlan = choose (wellFormed s) (collect s vlan [] (tlvs s 0)) (record { right = false; lows = [] })
+
+-- GROUP_IDS is right for a GROUP_COUNT: 1 to 62, and as many members
+unfoldable pub membersRight : ℕ → Collected → Bool
+membersRight count c = c .right && leb 1 count && leb count 62 && eqb (length (c .lows)) count
+
+-- members at the front of 62 places, the rest 0
+unfoldable pub pad : List ℕ → List ℕ
+pad l = l ++ replicate (62 - length l) 0

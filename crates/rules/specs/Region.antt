@@ -1,0 +1,72 @@
+-- "TLV regions": what a region holds, when it is well formed, and a type looked up in it.
+use Prim.Native.Nat.{ℕ, zero, suc, _+_, _*_, _/_}
+use mathlib.Core.Bool.{Bool, _||_}
+use mathlib.Core.List.{List, [], _∷_}
+use lib.ListN.{length}
+use lib.Dec.{leb, eqb}
+use Rattle.rules.specs.Choose.{choose}
+use Rattle.rules.specs.Bytes.{leAt}
+use Rattle.rules.specs.declared.Tlv.{Tlv}
+use Rattle.rules.specs.declared.Step.{Step}
+use Rattle.rules.specs.declared.Step.the-variants.{End, Next}
+use Rattle.rules.specs.declared.Found.{Found}
+use Rattle.rules.specs.declared.Found.the-variants.{Absent, At, Fault}
+
+-- the length of a TLV's value, from its length field: "length of its value (2)"
+unfoldable pub valueSize : ℕ → ℕ
+valueSize field = field
+
+-- "filled up to a multiple of 8"
+unfoldable pub filled : ℕ → ℕ
+filled n = (n + 7) / 8 * 8
+
+-- "A TLV is type (4), length of its value (2), pad (2, ignored), the value, filled up to a multiple of 8."
+unfoldable pub tlvAt : List ℕ → ℕ → Tlv
+tlvAt s i =
+    record { kind = leAt 4 s i; start = i + 8; size = valueSize (leAt 2 s (i + 4)); next = i + 8 + filled (valueSize (leAt 2 s (i + 4))) }
+
+-- the TLV at a position, where it stands whole with its fill in the region
+unfoldable pub stepAt : List ℕ → ℕ → Step
+stepAt s i = choose (leb (tlvAt s i .next) (length s)) (Next (tlvAt s i)) End
+
+-- a whole TLV and then those from where the next one starts, or none
+abbrev pub onward : (ℕ → List Tlv) → Step → List Tlv
+onward rest End = []
+onward rest (Next x) = x ∷ rest (x .next)
+
+unfoldable pub walk : ℕ → List ℕ → ℕ → List Tlv
+walk zero s i = []
+walk (suc n) s i = onward (walk n s) (stepAt s i)
+
+-- The whole TLVs from a position on. A TLV has 8 bytes or more, so the region's length is steps enough, and
+-- `tlvs s i ≡ onward (tlvs s) (stepAt s i)` holds everywhere (`tlvs-unfold` in proofs/Region.antt).
+unfoldable pub tlvs : List ℕ → ℕ → List Tlv
+tlvs s i = walk (length s) s i
+
+-- where the last of them ends
+unfoldable pub endOf : ℕ → List Tlv → ℕ
+endOf i [] = i
+endOf i (x ∷ xs) = endOf (x .next) xs
+
+-- "A region is well formed when whole TLVs with their fill cover it exactly."
+unfoldable pub wellFormed : List ℕ → Bool
+wellFormed s = eqb (endOf 0 (tlvs s 0)) (length s)
+
+-- a value's length is right for a width; width 0 is a nest, which has any length
+unfoldable pub fitsWidth : ℕ → ℕ → Bool
+fitsWidth width size = eqb width 0 || eqb size width
+
+-- what one more TLV of the type makes of what was found. "A listed one that comes twice, or has another width, is EINVAL."
+unfoldable pub meet : ℕ → Tlv → Found → Found
+meet width x Absent = choose (fitsWidth width (x .size)) (At (x .start) (x .size)) Fault
+meet width x (At a n) = Fault
+meet width x Fault = Fault
+
+-- what a list of TLVs makes of what was found of a type. "Unlisted types are skipped."
+unfoldable pub scan : ℕ → ℕ → Found → List Tlv → Found
+scan kind width f [] = f
+scan kind width f (x ∷ xs) = scan kind width (choose (eqb (x .kind) kind) (meet width x f) f) xs
+
+-- what a region holds of a type
+unfoldable pub lookup : List ℕ → ℕ → ℕ → Found
+lookup s kind width = scan kind width Absent (tlvs s 0)

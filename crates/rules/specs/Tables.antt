@@ -1,0 +1,140 @@
+-- What a payload does to the tables: the statuses after decoding, in their order, and the tables after it.
+use Prim.Native.Nat.{ℕ}
+use mathlib.Core.Bool.{Bool, true, false}
+use mathlib.Core.List.{List, []}
+use lib.ListN.{length, take, replicate}
+use lib.Dec.{leb, eqb}
+use Rattle.rules.specs.Choose.{choose}
+use Rattle.rules.specs.Answers.{code}
+use Rattle.rules.specs.Keyed.{holds, insert, replace, remove}
+use Rattle.rules.specs.Decode.{decode}
+use Rattle.rules.specs.declared.Status.{Status}
+use Rattle.rules.specs.declared.Status.the-variants.{Ok, Enoent, Enomem, Eexist}
+use Rattle.rules.specs.declared.Match.{Match}
+use Rattle.rules.specs.declared.Match.the-variants.{IngressPort, Vlan, Bridging}
+use Rattle.rules.specs.declared.Flow.{Flow}
+use Rattle.rules.specs.declared.Group.{Group}
+use Rattle.rules.specs.declared.Command.{Command}
+use Rattle.rules.specs.declared.Command.the-variants.{FlowAdd, FlowMod, FlowDel, GroupAdd, GroupMod, GroupDel}
+use Rattle.rules.specs.declared.Decoded.{Decoded}
+use Rattle.rules.specs.declared.Decoded.the-variants.{Carry, Refused}
+use Rattle.rules.specs.declared.Decoding.{Decoding}
+use Rattle.rules.specs.declared.FlowEntry.{FlowEntry}
+use Rattle.rules.specs.declared.GroupEntry.{GroupEntry}
+use Rattle.rules.specs.declared.FlowTable.{FlowTable}
+use Rattle.rules.specs.declared.GroupTable.{GroupTable}
+
+-- ---- Entries
+
+-- a stored flow: the table's own fields, the others 0
+unfoldable pub storedFlow : Flow → Match → FlowEntry
+storedFlow f (IngressPort p m) =
+    record { cookie = f .cookie; «dst_mac» = 0; priority = f .priority; hardtime = f .hardtime; idletime = f .idletime; «in_pport» = p; «in_pport_mask» = m; «group_id» = 0; table = 0; «goto_tbl» = f .«goto_tbl»; «vlan_id» = 0; «new_vlan_id» = 0; «has_mac» = false; «has_group» = false }
+storedFlow f (Vlan p v n) =
+    record { cookie = f .cookie; «dst_mac» = 0; priority = f .priority; hardtime = f .hardtime; idletime = f .idletime; «in_pport» = p; «in_pport_mask» = 0; «group_id» = 0; table = 10; «goto_tbl» = f .«goto_tbl»; «vlan_id» = v; «new_vlan_id» = n; «has_mac» = false; «has_group» = false }
+storedFlow f (Bridging v hm m hg id) =
+    record { cookie = f .cookie; «dst_mac» = m; priority = f .priority; hardtime = f .hardtime; idletime = f .idletime; «in_pport» = 0; «in_pport_mask» = 0; «group_id» = id; table = 50; «goto_tbl» = f .«goto_tbl»; «vlan_id» = v; «new_vlan_id» = 0; «has_mac» = hm; «has_group» = hg }
+
+unfoldable pub flowEntry : Flow → FlowEntry
+flowEntry f = storedFlow f (f .matching)
+
+-- a stored group, from its fields and the 62 places of its members
+unfoldable pub groupEntry : Group → List ℕ → GroupEntry
+groupEntry g members =
+    record { id = g .id; «pop_vlan» = g .«pop_vlan»; «member_count» = g .«member_count»; members = members }
+
+-- "The cookie is the key."; "The ID is the key"
+abbrev pub cookieOf : FlowEntry → ℕ
+cookieOf e = e .cookie
+
+abbrev pub idOf : GroupEntry → ℕ
+idOf e = e .id
+
+-- what stands in a free entry slot of a fresh device
+unfoldable pub freeFlow : FlowEntry
+freeFlow =
+    record { cookie = 0; «dst_mac» = 0; priority = 0; hardtime = 0; idletime = 0; «in_pport» = 0; «in_pport_mask» = 0; «group_id» = 0; table = 0; «goto_tbl» = 0; «vlan_id» = 0; «new_vlan_id» = 0; «has_mac» = false; «has_group» = false }
+
+unfoldable pub freeGroup : GroupEntry
+freeGroup = record { id = 0; «pop_vlan» = false; «member_count» = 0; members = replicate 62 0 }
+
+-- ---- Tables
+
+-- The tables as the rules see them: the live entries, in rising order of key
+pub record Tables : Type 0 where
+  pub flows : List FlowEntry
+  pub groups : List GroupEntry
+
+unfoldable pub emptyTables : Tables
+emptyTables = record { flows = []; groups = [] }
+
+-- the live entries of a table in the device: the first `count` of its entry slots; the others are free
+unfoldable pub liveFlows : FlowTable → List FlowEntry
+liveFlows t = take (t .count) (t .entries)
+
+unfoldable pub liveGroups : GroupTable → List GroupEntry
+liveGroups t = take (t .count) (t .entries)
+
+-- a fresh device's tables: 256 flow and 128 group entry slots, all free
+unfoldable pub freshFlows : FlowTable
+freshFlows = record { count = 0; entries = replicate 256 freeFlow }
+
+unfoldable pub freshGroups : GroupTable
+freshGroups = record { count = 0; entries = replicate 128 freeGroup }
+
+-- ---- Commands
+
+-- "EEXIST (add) or ENOENT (mod, del); ENOMEM (add, when 256 flows or 128 groups are live)", for any table
+module _ {A : Type 0} (key : A → ℕ) where
+  unfoldable pub addStatus : ℕ → ℕ → List A → Status
+  addStatus limit k l = choose (holds key k l) Eexist (choose (leb limit (length l)) Enomem Ok)
+
+  unfoldable pub heldStatus : ℕ → List A → Status
+  heldStatus k l = choose (holds key k l) Ok Enoent
+
+unfoldable pub commandStatus : Tables → Command → Status
+commandStatus t (FlowAdd f) = addStatus cookieOf 256 (f .cookie) (t .flows)
+commandStatus t (FlowMod f) = heldStatus cookieOf (f .cookie) (t .flows)
+commandStatus t (FlowDel k) = heldStatus cookieOf k (t .flows)
+commandStatus t (GroupAdd g) = addStatus idOf 128 (g .id) (t .groups)
+commandStatus t (GroupMod g) = heldStatus idOf (g .id) (t .groups)
+commandStatus t (GroupDel k) = heldStatus idOf k (t .groups)
+
+unfoldable pub withFlows : Tables → List FlowEntry → Tables
+withFlows t l = record { flows = l; groups = t .groups }
+
+unfoldable pub withGroups : Tables → List GroupEntry → Tables
+withGroups t l = record { flows = t .flows; groups = l }
+
+-- what a command does when its status is OK. "Mod replaces all other fields."; "mod replaces the rest"
+unfoldable pub commandEffect : Tables → Command → List ℕ → Tables
+commandEffect t (FlowAdd f) m = withFlows t (insert cookieOf (flowEntry f) (t .flows))
+commandEffect t (FlowMod f) m = withFlows t (replace cookieOf (flowEntry f) (t .flows))
+commandEffect t (FlowDel k) m = withFlows t (remove cookieOf k (t .flows))
+commandEffect t (GroupAdd g) m = withGroups t (insert idOf (groupEntry g m) (t .groups))
+commandEffect t (GroupMod g) m = withGroups t (replace idOf (groupEntry g m) (t .groups))
+commandEffect t (GroupDel k) m = withGroups t (remove idOf k (t .groups))
+
+unfoldable pub decodedStatus : Tables → Decoded → Status
+decodedStatus t (Carry c) = commandStatus t c
+decodedStatus t (Refused e) = e
+
+unfoldable pub decodedEffect : Tables → Decoded → List ℕ → Tables
+decodedEffect t (Carry c) m = commandEffect t c m
+decodedEffect t (Refused e) m = t
+
+-- A payload carried out: its status, and the tables after it
+pub record Executed : Type 0 where
+  pub status : Status
+  pub tables : Tables
+
+-- the effect is used only at OK
+unfoldable pub executed : Tables → Status → Tables → Executed
+executed t e effect = record { status = e; tables = choose (eqb (code e) 0) effect t }
+
+unfoldable pub carryOut : Tables → Decoding → Executed
+carryOut t d = executed t (decodedStatus t (d .what)) (decodedEffect t (d .what) (d .members))
+
+-- "the payload, carried out as below"
+unfoldable pub execute : ℕ → List ℕ → Tables → Executed
+execute ports payload t = carryOut t (decode ports payload)

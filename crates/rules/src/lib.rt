@@ -1,0 +1,257 @@
+// The types that the rules and all code share. What document 01 says of them is defined in specs/.
+
+// ---- Answer numbers and status codes
+
+// What a call answers. `number` in specs/Answers.antt gives document 01's number of each.
+pub enum Answer {
+    Done,
+    AccessNotAllowed,
+    ValueNotAllowed,
+    RingEmpty,
+    CreditsFull,
+    DescriptorOutside,
+    BufferShort,
+    PortNotAllowed,
+    NotAFrame,
+    ListShort,
+    CutShort,
+    BadMark,
+    BadVersion,
+    BadPortCount,
+    RecordDisagrees,
+}
+
+// How a command ended. `code` in specs/Answers.antt gives document 01's code of each.
+pub enum Status {
+    Ok,
+    Enoent,
+    Enxio,
+    Enomem,
+    Eexist,
+    Einval,
+    Emsgsize,
+    Enotsup,
+}
+
+// ---- Registers
+
+// The command ring. `base_latch` is the latch (document 01: hold) of BASE_ADDR.
+#[repr(C)]
+pub struct Ring {
+    pub base_addr: u64,
+    pub base_latch: u32,
+    pub size: u32,
+    pub head: u32,
+    pub tail: u32,
+    pub credits: u32,
+}
+
+// All that the device keeps besides its tables. `test_reg` and `test_reg64` are the last values written.
+#[repr(C)]
+pub struct Registers {
+    pub switch_id: u64,
+    pub links: u64,
+    pub enable: u64,
+    pub test_reg64: u64,
+    pub ports: u32,
+    pub enable_latch: u32,
+    pub test_latch: u32,
+    pub test_reg: u32,
+    pub ring: Ring,
+}
+
+// The registers of document 01's list. Magic is each 8 bytes of 0x0000 to 0x000f.
+pub enum Register {
+    Magic,
+    TestReg,
+    TestReg64,
+    Control,
+    PortPhysCount,
+    PortPhysLinkStatus,
+    PortPhysEnable,
+    SwitchId,
+    BaseAddr,
+    Size,
+    Head,
+    Tail,
+    Ctrl,
+    Credits,
+}
+
+// The register that starts at an offset, if one does.
+pub enum Located {
+    Nowhere,
+    Here(Register),
+}
+
+// What an access of some width at some offset reaches: a whole register, or half of one that has 8 bytes.
+pub enum Access {
+    NotAllowed,
+    Reserved,
+    Whole(Register),
+    Lower(Register),
+    Upper(Register),
+}
+
+// ---- Descriptor
+
+// A descriptor's fields that are read.
+pub struct Descriptor {
+    pub buf_addr: u64,
+    pub buf_size: u32,
+    pub tlv_size: u32,
+}
+
+// ---- TLV regions and fields
+
+// One whole TLV of a region: its type, where its value starts, how long that is, and where the next TLV starts.
+pub struct Tlv {
+    pub kind: u32,
+    pub start: usize,
+    pub size: usize,
+    pub next: usize,
+}
+
+// What stands at a position of a region.
+pub enum Step {
+    End,
+    Next(Tlv),
+}
+
+// What a region holds of a type: nothing; one value, by start and length; or a fault: it comes twice or has another width.
+pub enum Found {
+    Absent,
+    At(usize, usize),
+    Fault,
+}
+
+// A row of the field table: the width of the field of this type in CMD_INFO (0: a nest), a bit for each user that reads
+// it and for each that requires it, and the width of the member field of this type in GROUP_IDS (0: none).
+pub struct FieldRule {
+    pub width: u8,
+    pub uses: u8,
+    pub needs: u8,
+    pub member_width: u8,
+}
+
+// ---- Commands
+
+// What a flow compares, by its table: 0, 10, 50.
+pub enum Match {
+    IngressPort {
+        in_pport: u32,
+        in_pport_mask: u32,
+    },
+    Vlan {
+        in_pport: u32,
+        vlan_id: u16,
+        new_vlan_id: u16,
+    },
+    Bridging {
+        vlan_id: u16,
+        has_mac: bool,
+        dst_mac: u64,
+        has_group: bool,
+        group_id: u32,
+    },
+}
+
+pub struct Flow {
+    pub cookie: u64,
+    pub priority: u32,
+    pub hardtime: u32,
+    pub idletime: u32,
+    pub goto_tbl: u16,
+    pub matching: Match,
+}
+
+// A group without its members, which stand beside it: POP_VLAN of type 0, GROUP_COUNT of types 3 and 4.
+pub struct Group {
+    pub id: u32,
+    pub pop_vlan: bool,
+    pub member_count: u8,
+}
+
+pub enum Command {
+    FlowAdd(Flow),
+    FlowMod(Flow),
+    FlowDel(u64),
+    GroupAdd(Group),
+    GroupMod(Group),
+    GroupDel(u32),
+}
+
+// What a payload asks for, or the status that its first fault gives.
+pub enum Decoded {
+    Carry(Command),
+    Refused(Status),
+}
+
+// A decoding with the members of its group: their low 16 bits, those past the count 0.
+pub struct Decoding {
+    pub what: Decoded,
+    pub members: [u16; 62],
+}
+
+// ---- Tables
+
+// A stored flow. A field that its table does not have, or that was not given, is 0 and false.
+#[repr(C)]
+pub struct FlowEntry {
+    pub cookie: u64,
+    pub dst_mac: u64,
+    pub priority: u32,
+    pub hardtime: u32,
+    pub idletime: u32,
+    pub in_pport: u32,
+    pub in_pport_mask: u32,
+    pub group_id: u32,
+    pub table: u16,
+    pub goto_tbl: u16,
+    pub vlan_id: u16,
+    pub new_vlan_id: u16,
+    pub has_mac: bool,
+    pub has_group: bool,
+}
+
+// A stored group. A member has type 0 and the group's VLAN, so its low 16 bits say which it is; those past the count are 0.
+// OUT_PPORT of type 0 is the low 16 bits of the ID.
+#[repr(C)]
+pub struct GroupEntry {
+    pub id: u32,
+    pub pop_vlan: bool,
+    pub member_count: u8,
+    pub members: [u16; 62],
+}
+
+// Live entries stand at the front, in rising order of their key; the entry slots past the count are free.
+#[repr(C)]
+pub struct FlowTable {
+    pub count: usize,
+    pub entries: [FlowEntry; 256],
+}
+
+#[repr(C)]
+pub struct GroupTable {
+    pub count: usize,
+    pub entries: [GroupEntry; 128],
+}
+
+#[repr(C)]
+pub struct Device {
+    pub registers: Registers,
+    pub flows: FlowTable,
+    pub groups: GroupTable,
+}
+
+// ---- Calls
+
+// A call on a device. What it borrows (guest memory, frame, journal buffer, list of outputs) stands beside it.
+pub enum Request {
+    Read { offset: u64, width: u32 },
+    Write { offset: u64, width: u32, value: u64 },
+    Link { port: u32, up: bool },
+    Process,
+    Frame { port: u32 },
+    Header,
+}
