@@ -1,10 +1,12 @@
 -- Laws of the definitions of specs/, for whoever proves code against them; and the points of document 01.
 pub mod Cases
+pub mod Bytes
 pub mod Region
 pub mod FieldTable
 pub mod GroupId
 pub mod Keyed
 pub mod Deciding
 pub mod Tables
+pub mod Journal
 pub mod Switch
 mod Points
