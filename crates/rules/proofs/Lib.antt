@@ -8,5 +8,6 @@ pub mod Keyed
 pub mod Deciding
 pub mod Tables
 pub mod Journal
+pub mod Agreement
 pub mod Switch
 mod Points

@@ -1,0 +1,46 @@
+-- CREDITS stays even with what was consumed and returned.
+-- Assumes nothing.
+use Prim.Native.Nat.{ℕ, _+_, _-_, _≤_}
+use mathlib.Core.Path.{_≡_, refl, sym, ap, _∙_}
+use mathlib.Core.List.{List}
+use native.Mathlib.Omega.{arith}
+use Rattle.rules.specs.Ring.{completeEffect}
+use Rattle.rules.specs.Registers.{Written, access, taken, write, withRing, withLinks}
+use Rattle.rules.specs.Switch.{Switch, Borrowed, Result, readEffect, writeEffect, linked, processEffect, framed, headed, refusal, effect}
+use Rattle.rules.specs.declared.Ring.{Ring}
+use Rattle.rules.specs.declared.Registers.{Registers}
+use Rattle.rules.specs.declared.Request.{Request}
+use Rattle.rules.specs.declared.Request.the-variants.{Read, Write, Link, Process, Frame, Header}
+use Rattle.history.specs.Trace.{Seen, seen}
+use Rattle.history.specs.Events.{Event, event, writeEvent}
+use Rattle.history.specs.Events.Event.{Other, WritesBase, WritesSize, WritesHead, WritesCredits, ResetsRing, ResetsDevice, Processes}
+use Rattle.history.specs.Tally.{Tally, noTally, tallies, notesTally}
+use Rattle.history.proofs.Writes.{Leaves, Does, write-does}
+
+abbrev pub Even : ℕ → Tally → Type 0
+Even credits t = credits + t .returned ≡ t .consumed
+
+event-keeps : (d : Registers) (w : Written) (t : Tally) (e : Event) → Even (d .ring .credits) t → Does d w e
+    → Even (w .registers .ring .credits) (tallies t e)
+unfolding tallies noTally
+event-keeps d w t Other h x = rw (x .credits-is) h
+event-keeps d w t WritesBase h x = rw (x .credits-is) h
+event-keeps d w t (WritesSize v) h x = rw (x .0 .credits-is) h
+event-keeps d w t (WritesHead v) h x = rw (x .0 .credits-is) h
+event-keeps d w t (WritesCredits n) h x = let c = x .0 .credits-is in let l = x .1 in omega arith
+event-keeps d w t ResetsRing h x = rw (x .credits-is)
+event-keeps d w t ResetsDevice h x = rw (x .credits-is)
+event-keeps d w t Processes h x = absurd x
+
+pub credits-keep : (s : Switch) (t : Tally) (m : Borrowed) (r : Request) → Even (s .registers .ring .credits) t → refusal s m r ≡ 0
+    → Even (effect s m r .switch .registers .ring .credits) (notesTally t (seen r (effect s m r)))
+unfolding refusal effect
+credits-keep s t m (Read offset width) h e = unfold notesTally tallies event seen readEffect in h
+credits-keep s t m (Write offset width v) h e =
+    unfold notesTally event seen writeEffect in
+    event-keeps (s .registers) (write (s .registers) offset width v) t (writeEvent (access offset width) (taken width v)) h
+    (write-does (s .registers) offset width v e)
+credits-keep s t m (Link port up) h e = unfold notesTally tallies event seen linked withLinks in h
+credits-keep s t m Process h e = unfold notesTally tallies event seen processEffect withRing completeEffect in omega arith
+credits-keep s t m (Frame port) h e = unfold notesTally tallies event seen framed in h
+credits-keep s t m Header h e = unfold notesTally tallies event seen headed in h

@@ -1,0 +1,71 @@
+-- Lists of calls, and what is seen of each.
+use Prim.Native.Nat.{ℕ}
+use mathlib.Core.Bool.{Bool, true, false}
+use mathlib.Core.Path.{_≡_}
+use mathlib.Core.List.{List, [], _∷_}
+use lib.ListN.{take}
+use lib.Dec.{eqb}
+use Rattle.rules.specs.Choose.{choose}
+use Rattle.rules.specs.Switch.{Switch, Borrowed, Result, step}
+use Rattle.rules.specs.declared.Request.{Request}
+use Rattle.rules.specs.declared.Request.the-variants.{Read, Write, Link, Process, Frame, Header}
+
+-- A call with its arguments, and what guest memory, frame, buffer and list hold when it is made
+pub record Moment : Type 0 where
+  pub request : Request
+  pub borrowed : Borrowed
+
+unfoldable pub stepAt : Switch → Moment → Result
+stepAt s m = step s (m .borrowed) (m .request)
+
+-- All that an observer sees of a call: its arguments, its answer, the completion that it wrote (0 for none), and the bytes that it
+-- wrote into the buffer
+pub record Seen : Type 0 where
+  pub request : Request
+  pub answer : ℕ
+  pub completed : ℕ
+  pub written : List ℕ
+
+unfoldable pub seen : Request → Result → Seen
+seen r x = record { request = r; answer = x .answer; completed = x .completed; written = take (x .length) (x .buffer) }
+
+-- the switch after a list of calls, and what was seen of them
+unfoldable pub final : Switch → List Moment → Switch
+final s [] = s
+final s (m ∷ ms) = final (stepAt s m .switch) ms
+
+unfoldable pub trace : Switch → List Moment → List Seen
+trace s [] = []
+trace s (m ∷ ms) = seen (m .request) (stepAt s m) ∷ trace (stepAt s m .switch) ms
+
+-- What an observer has written down after a list of calls. "Refused and other calls change nothing."
+module _ {B : Type 0} (note : B → Seen → B) where
+  unfoldable pub noted : B → Seen → B
+  noted b x = choose (eqb (x .answer) 0) (note b x) b
+
+  unfoldable pub observe : B → List Seen → B
+  observe b [] = b
+  observe b (x ∷ xs) = observe (noted b x) xs
+
+-- process calls and no other, each with what it borrows
+unfoldable pub processes : List Borrowed → List Moment
+processes [] = []
+processes (b ∷ bs) = record { request = Process; borrowed = b } ∷ processes bs
+
+-- no call answered 4, 5 or 6
+abbrev pub Untroubled : List Seen → Type 0
+Untroubled [] = Unit {0}
+Untroubled (x ∷ xs) = (x .answer ≡ 4 → ⊥) × (x .answer ≡ 5 → ⊥) × (x .answer ≡ 6 → ⊥) × Untroubled xs
+
+-- the same calls without the header calls
+unfoldable pub isHeader : Request → Bool
+isHeader (Read offset width) = false
+isHeader (Write offset width value) = false
+isHeader (Link port up) = false
+isHeader Process = false
+isHeader (Frame port) = false
+isHeader Header = true
+
+unfoldable pub withoutHeaders : List Moment → List Moment
+withoutHeaders [] = []
+withoutHeaders (m ∷ ms) = choose (isHeader (m .request)) (withoutHeaders ms) (m ∷ withoutHeaders ms)

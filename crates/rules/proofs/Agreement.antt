@@ -1,0 +1,171 @@
+-- What a process call records of a slot, replay agrees with.
+-- Assumes nothing.
+use Prim.Native.Nat.{ℕ, _+_, _%_, _≤_, _<_}
+use mathlib.Core.Bool.{Bool, true, false, not, _&&_, _||_}
+use mathlib.Core.Path.{_≡_, refl, sym, ap, _∙_}
+use mathlib.Core.List.{List, [], _∷_}
+use native.Mathlib.Omega.{arith}
+use lib.Dec.{ltb, leb, eqb}
+use lib.ListN.{length, take, drop, length-take}
+use borrow.Author.Tests.{ltb-false, le-leb, eq-eqb}
+use Rattle.rules.specs.Choose.{choose}
+use Rattle.rules.specs.Answers.{code}
+use Rattle.rules.specs.Bytes.{part, inside}
+use Rattle.rules.specs.Descriptor.{Fetched, fetch}
+use Rattle.rules.specs.Descriptor.Fetched.{Faulty, Payload}
+use Rattle.rules.specs.Region.{walk, tlvs, endOf, wellFormed, scan, lookup}
+use Rattle.rules.specs.Fields.{given, value, fieldsRight, isAt, numberIn, nestIn}
+use Rattle.rules.specs.GroupId.{groupIdAllowed}
+use Rattle.rules.specs.Decode.{refused, carried, need, matchOf, flowOf, matchAllowed, flowUser, isTable, flowIn, flowKeyIn, groupOf, membersOf, groupAllowed, groupUser, groupIn, groupKeyIn, isCommand, commandIn, commandType, commandInfo, decode}
+use Rattle.rules.specs.Tables.{Tables, addStatus, heldStatus, commandStatus, decodedStatus, executed, carryOut, execute, cookieOf, idOf}
+use Rattle.rules.specs.Keyed.{holds}
+use Rattle.rules.specs.Journal.{completion, Progress, Reader, ready, isUnread, recordAgrees, tablesAfter, counted, recordRead}
+use Rattle.rules.specs.Switch.{Carried, carry}
+use Rattle.rules.specs.declared.Status.{Status}
+use Rattle.rules.specs.declared.Status.the-variants.{Ok, Enoent, Enxio, Enomem, Eexist, Einval, Emsgsize, Enotsup}
+use Rattle.rules.specs.declared.Flow.{Flow}
+use Rattle.rules.specs.declared.Group.{Group}
+use Rattle.rules.specs.declared.Command.{Command}
+use Rattle.rules.specs.declared.Command.the-variants.{FlowAdd, FlowMod, FlowDel, GroupAdd, GroupMod, GroupDel}
+use Rattle.rules.specs.declared.Decoded.{Decoded}
+use Rattle.rules.specs.declared.Decoded.the-variants.{Carry, Refused}
+use Rattle.rules.specs.declared.Decoding.{Decoding}
+use Rattle.rules.specs.declared.Descriptor.{Descriptor}
+use Rattle.rules.proofs.Cases.{by-test, by-le}
+
+-- ---- A payload never ends in ENXIO or EMSGSIZE: those are a descriptor's
+
+abbrev Read : Status → Type 0
+Read e = isUnread (completion e) ≡ false
+
+abbrev ReadBy : Decoded → Type 0
+ReadBy (Carry c) = Unit {0}
+ReadBy (Refused e) = Read e
+
+need-read : (test : Bool) (e : Status) (d : Decoding) → Read e → ReadBy (d .what) → ReadBy (need test e d .what)
+unfolding need refused
+need-read true e d h k = k
+need-read false e d h k = h
+
+einval-read : Read Einval
+unfolding isUnread completion code
+einval-read = refl
+
+enotsup-read : Read Enotsup
+unfolding isUnread completion code
+enotsup-read = refl
+
+flow-read : (ports : ℕ) (s : List ℕ) (make : Flow → Command) → ReadBy (flowIn ports s make .what)
+unfolding flowIn carried
+flow-read ports s make =
+    need-read _ Einval _ einval-read (need-read _ Enotsup _ enotsup-read (need-read _ Einval _ einval-read tt))
+
+flow-key-read : (s : List ℕ) → ReadBy (flowKeyIn s .what)
+unfolding flowKeyIn carried
+flow-key-read s = need-read _ Einval _ einval-read tt
+
+group-read : (ports : ℕ) (s : List ℕ) (make : Group → Command) → ReadBy (groupIn ports s make .what)
+unfolding groupIn carried
+group-read ports s make = need-read _ Einval _ einval-read tt
+
+group-key-read : (s : List ℕ) → ReadBy (groupKeyIn s .what)
+unfolding groupKeyIn carried
+group-key-read s = need-read _ Einval _ einval-read tt
+
+either : (t : Bool) (a b : Decoding) → ReadBy (a .what) → ReadBy (b .what) → ReadBy (choose t a b .what)
+either true a b h k = h
+either false a b h k = k
+
+command-read : (ports c : ℕ) (s : List ℕ) → ReadBy (commandIn ports c s .what)
+unfolding commandIn
+command-read ports c s =
+    either (eqb c 3) _ _ (flow-read ports s FlowAdd)
+    (either (eqb c 4) _ _ (flow-read ports s FlowMod)
+    (either (eqb c 5) _ _ (flow-key-read s)
+    (either (eqb c 7) _ _ (group-read ports s GroupAdd)
+    (either (eqb c 8) _ _ (group-read ports s GroupMod) (group-key-read s)))))
+
+decode-read : (ports : ℕ) (s : List ℕ) → ReadBy (decode ports s .what)
+unfolding decode
+decode-read ports s =
+    need-read _ Einval _ einval-read
+    (need-read _ Enotsup _ enotsup-read (need-read _ Einval _ einval-read (command-read ports _ _)))
+
+module _ {A : Type 0} (key : A → ℕ) (k : ℕ) (l : List A) where
+  add-read : (limit : ℕ) → Read (addStatus key limit k l)
+  unfolding addStatus isUnread completion code
+  add-read limit = by-test (holds key k l) (λ p. rw p) (λ p. by-test (leb limit (length l)) (λ q. rw (p, q)) (λ q. rw (p, q)))
+
+  held-read : Read (heldStatus key k l)
+  unfolding heldStatus isUnread completion code
+  held-read = by-test (holds key k l) (λ p. rw p) (λ p. rw p)
+
+status-read : (t : Tables) (w : Decoded) → ReadBy w → Read (decodedStatus t w)
+unfolding decodedStatus commandStatus
+status-read t (Carry (FlowAdd f)) h = add-read cookieOf (f .cookie) (t .flows) 256
+status-read t (Carry (FlowMod f)) h = held-read cookieOf (f .cookie) (t .flows)
+status-read t (Carry (FlowDel k)) h = held-read cookieOf k (t .flows)
+status-read t (Carry (GroupAdd g)) h = add-read idOf (g .id) (t .groups) 128
+status-read t (Carry (GroupMod g)) h = held-read idOf (g .id) (t .groups)
+status-read t (Carry (GroupDel k)) h = held-read idOf k (t .groups)
+status-read t (Refused e) h = h
+
+pub execute-read : (ports : ℕ) (payload : List ℕ) (t : Tables) → isUnread (completion (execute ports payload t .status)) ≡ false
+unfolding execute carryOut executed
+execute-read ports payload t = status-read t (decode ports payload .what) (decode-read ports payload)
+
+-- ---- An empty payload is EINVAL, as is a descriptor's fault that records none
+
+pub execute-empty : (ports : ℕ) (t : Tables) → (execute ports [] t .status ≡ Einval) × (execute ports [] t .tables ≡ t)
+unfolding execute carryOut executed decodedStatus decode need refused wellFormed endOf tlvs walk isAt commandType commandInfo lookup scan code
+execute-empty ports t = (refl, refl)
+
+-- ---- The agreement
+
+-- replay makes of the record of a slot what the slot did
+abbrev Agrees : Progress → Fetched → Type 0
+Agrees p f =
+    recordRead p (completion (carry (p .ports) (p .tables) f .status)) (carry (p .ports) (p .tables) f .payload)
+    ≡ ready (counted p (completion (carry (p .ports) (p .tables) f .status)) (carry (p .ports) (p .tables) f .tables))
+
+payload-agrees : (p : Progress) (bs : List ℕ) → length bs ≤ 4096 → Agrees p (Payload bs)
+unfolding carry recordRead recordAgrees tablesAfter
+payload-agrees p bs h = rw (execute-read (p .ports) bs (p .tables), le-leb _ _ h, eq-eqb (completion (execute (p .ports) bs (p .tables) .status)) _ refl)
+
+enxio-agrees : (p : Progress) → Agrees p (Faulty Enxio)
+unfolding carry recordRead recordAgrees tablesAfter isUnread completion code
+enxio-agrees p = refl
+
+emsgsize-agrees : (p : Progress) → Agrees p (Faulty Emsgsize)
+unfolding carry recordRead recordAgrees tablesAfter isUnread completion code
+emsgsize-agrees p = refl
+
+einval-agrees : (p : Progress) → Agrees p (Faulty Einval)
+unfolding carry recordRead recordAgrees tablesAfter
+einval-agrees p =
+    let x = execute-empty (p .ports) (p .tables) in
+    rw (einval-read, x .0, x .1, eq-eqb (completion Einval) _ refl)
+
+-- whatever memory and descriptor hold
+pub fetch-agrees : (p : Progress) (memory : List ℕ) (d : Descriptor) → Agrees p (fetch memory d)
+unfolding fetch part
+fetch-agrees p memory d =
+    by-test (not (eqb (d .«buf_addr» % 8) 0 && inside (d .«buf_addr») (d .«buf_size») memory))
+    (λ a. rw a (enxio-agrees p))
+    (λ a. by-test (ltb (d .«buf_size») (d .«tlv_size»))
+    (λ b. rw (a, b) (einval-agrees p))
+    (λ b. by-test (ltb 4096 (d .«tlv_size»))
+    (λ c. rw (a, b, c) (emsgsize-agrees p))
+    (λ c. rw (a, b, c) (payload-agrees p _ (rw length-take (omega (arith, ltb-false 4096 (d .«tlv_size») c)))))))
+
+-- what is recorded is short
+pub fetch-short : (ports : ℕ) (t : Tables) (memory : List ℕ) (d : Descriptor) → length (carry ports t (fetch memory d) .payload) ≤ 4096
+unfolding fetch carry part
+fetch-short ports t memory d =
+    by-test (not (eqb (d .«buf_addr» % 8) 0 && inside (d .«buf_addr») (d .«buf_size») memory))
+    (λ a. rw a (omega arith))
+    (λ a. by-test (ltb (d .«buf_size») (d .«tlv_size»))
+    (λ b. rw (a, b) (omega arith))
+    (λ b. by-test (ltb 4096 (d .«tlv_size»))
+    (λ c. rw (a, b, c) (omega arith))
+    (λ c. rw (a, b, c) (rw length-take (omega (arith, ltb-false 4096 (d .«tlv_size») c))))))
