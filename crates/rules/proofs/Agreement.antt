@@ -94,7 +94,10 @@ decode-read ports s =
 module _ {A : Type 0} (key : A → ℕ) (k : ℕ) (l : List A) where
   add-read : (limit : ℕ) → Read (addStatus key limit k l)
   unfolding addStatus isUnread completion code
-  add-read limit = by-test (holds key k l) (λ p. rw p) (λ p. by-test (leb limit (length l)) (λ q. rw (p, q)) (λ q. rw (p, q)))
+  add-read limit =
+      by-test (holds key k l)
+      (λ p. by-test (leb limit (length l)) (λ q. simp (p, q)) (λ q. simp (p, q)))
+      (λ p. by-test (leb limit (length l)) (λ q. simp (p, q)) (λ q. simp (p, q)))
 
   held-read : Read (heldStatus key k l)
   unfolding heldStatus isUnread completion code
