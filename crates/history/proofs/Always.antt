@@ -9,10 +9,10 @@ use native.Mathlib.Omega.{arith}
 use lib.ListN.{length}
 use lib.Dec.{ltb, leb, eqb}
 use borrow.Author.Tests.{eqb-true, eq-eqb, ne-eqb}
-use Rattle.rules.specs.Choose.{choose, refuse}
+use Rattle.rules.specs.Choose.{refuse}
 use Rattle.rules.specs.Bytes.{inside}
 use Rattle.rules.specs.Descriptor.{descriptorAt}
-use Rattle.rules.specs.Switch.{Switch, Borrowed, Result, unchanged, readEffect, writeEffect, linked, slotRecord, processRefusal, processEffect, framed, headed, refusal, effect, step}
+use Rattle.rules.specs.Switch.{Switch, Borrowed, unchanged, readEffect, writeEffect, linked, slotRecord, processRefusal, processEffect, framed, headed, refusal, effect, step}
 use Rattle.rules.specs.declared.Request.{Request}
 use Rattle.rules.specs.declared.Request.the-variants.{Read, Write, Link, Process, Frame, Header}
 use Rattle.rules.proofs.Cases.{by-eq}

@@ -1,40 +1,36 @@
 -- Demand 3, proved: one theorem over every list of calls.
 -- Assumes nothing.
-use Prim.Native.Nat.{ℕ, zero, suc, _+_, _-_, _*_, _≤_, _<_}
-use mathlib.Core.Bool.{Bool, true, false, not}
+use Prim.Native.Nat.{ℕ, _+_, _*_, _≤_}
+use mathlib.Core.Bool.{true}
 use mathlib.Core.Path.{_≡_, refl, sym, ap, _∙_}
-use mathlib.Core.Logic.{_↔_}
-use mathlib.Core.List.{List, [], _∷_, _++_}
+use mathlib.Core.List.{List}
 use native.Mathlib.Omega.{arith}
 use lib.ListN.{length, take}
-use lib.Dec.{ltb, leb, eqb}
-use borrow.Author.Tests.{eqb-true, eq-eqb, ne-eqb}
-use Rattle.rules.specs.Choose.{choose, refuse}
-use Rattle.rules.specs.Bytes.{leAt, bytesOf, inside, splice}
+use lib.Dec.{leb}
+use borrow.Author.Tests.{eqb-true, ne-eqb}
+use Rattle.rules.specs.Bytes.{bytesOf, splice}
 use Rattle.rules.specs.Ring.{zeroRing, outstanding}
 use Rattle.rules.specs.Descriptor.{Fetched, descriptorAt, descriptor, completionAt, fetch}
 use Rattle.rules.specs.Descriptor.Fetched.{Faulty, Payload}
 use Rattle.rules.specs.Registers.{freshRegisters}
-use Rattle.rules.specs.Tables.{Tables, emptyTables, execute}
-use Rattle.rules.specs.Journal.{Progress, Replayed, isUnread, recordAgrees, tablesAfter, counted, begin, ready, feeds, finish, finished, endsIn, replay, header, completion}
-use Rattle.rules.specs.Switch.{Switch, Borrowed, Result, Carried, freshSwitch, unchanged, carry, carriedSlot, slotRecord, processRefusal, processEffect, headed, refusal, effect, step}
-use Rattle.rules.specs.declared.Status.{Status}
+use Rattle.rules.specs.Tables.{Tables, execute}
+use Rattle.rules.specs.Journal.{Progress, isUnread, recordAgrees, tablesAfter, counted, ready, finish, finished, endsIn, replay, header, completion}
+use Rattle.rules.specs.Switch.{Switch, Borrowed, freshSwitch, unchanged, carry, carriedSlot, slotRecord, processEffect, headed, effect, step}
 use Rattle.rules.specs.declared.Status.the-variants.{Ok}
-use Rattle.rules.specs.declared.Request.{Request}
-use Rattle.rules.specs.declared.Request.the-variants.{Read, Write, Link, Process, Frame, Header}
+use Rattle.rules.specs.declared.Request.the-variants.{Process, Header}
 use Rattle.rules.proofs.Cases.{by-eq, by-test, and-right}
 use Rattle.rules.proofs.Bytes.{take-splice}
 use Rattle.rules.proofs.Switch.{refused, accepted}
 use Rattle.rules.proofs.Tables.{not-ok-unchanged}
-use Rattle.history.specs.Trace.{Moment, Seen, seen, final, trace, observe}
+use Rattle.history.specs.Trace.{Moment, seen, final, trace}
 use Rattle.history.specs.RingHistory.{RingHistory, emptied, notesRing}
-use Rattle.history.specs.Ledger.{Ledger, blank, notesLedger}
-use Rattle.history.specs.Tally.{Tally, noTally, notesTally}
+use Rattle.history.specs.Ledger.{blank, notesLedger}
+use Rattle.history.specs.Tally.{noTally, notesTally}
 use Rattle.history.specs.Claim.{ring, ledger, tally, slotIn, Claim}
 use Rattle.history.proofs.Always.{always, answer-is, process-idle, process-accepted}
 use Rattle.history.proofs.Drains.{drain}
-use Rattle.history.proofs.Tied.{Tied, TiedTo, tied-empty, tied-order, tied-idle, process-written, process-slot, ring-keeps}
-use Rattle.history.proofs.Kept.{Kept, account, kept-blank, ledger-keeps}
+use Rattle.history.proofs.Tied.{TiedTo, tied-empty, tied-order, tied-idle, process-written, process-slot, ring-keeps}
+use Rattle.history.proofs.Kept.{Kept, kept-blank, ledger-keeps}
 use Rattle.history.proofs.Even.{Even, credits-keep}
 
 -- ---- What a process call completes

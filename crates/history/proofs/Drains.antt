@@ -1,30 +1,29 @@
 -- Process calls one after another come to answer 3 after as many as slots were outstanding; header calls leave no trace.
 -- Assumes nothing.
-use Prim.Native.Nat.{ℕ, zero, suc, _+_, _-_, _%_, _≤_, _<_}
+use Prim.Native.Nat.{ℕ, zero, suc, _<_}
 use mathlib.Core.Bool.{Bool, true, false, not}
-use mathlib.Core.Path.{_≡_, refl, sym, ap, _∙_}
+use mathlib.Core.Path.{_≡_, refl, _∙_}
 use mathlib.Core.List.{List, [], _∷_}
 use native.Mathlib.Omega.{arith}
 use lib.ListN.{length}
 use lib.Dec.{ltb, leb, eqb}
-use borrow.Author.Tests.{ne-eqb}
-use Rattle.rules.specs.Choose.{choose, refuse}
+use Rattle.rules.specs.Choose.{refuse}
 use Rattle.rules.specs.Bytes.{inside}
 use Rattle.rules.specs.Ring.{distance, completeEffect}
 use Rattle.rules.specs.Descriptor.{descriptorAt}
 use Rattle.rules.specs.Registers.{withRing}
-use Rattle.rules.specs.Switch.{Switch, Borrowed, Result, unchanged, slotRecord, processRefusal, processEffect, headed, refusal, effect, step}
+use Rattle.rules.specs.Switch.{Switch, Borrowed, unchanged, slotRecord, processRefusal, processEffect, headed, refusal, effect, step}
 use Rattle.rules.specs.declared.Request.{Request}
 use Rattle.rules.specs.declared.Request.the-variants.{Read, Write, Link, Process, Frame, Header}
 use Rattle.rules.proofs.Cases.{by-eq, by-test}
 use Rattle.rules.proofs.Switch.{refused, accepted}
-use Rattle.history.specs.Trace.{Moment, Seen, Untroubled, stepAt, seen, final, trace, noted, observe, processes, isHeader, withoutHeaders}
+use Rattle.history.specs.Trace.{Moment, Untroubled, stepAt, seen, final, trace, noted, observe, processes, isHeader, withoutHeaders}
 use Rattle.history.specs.Events.{event}
 use Rattle.history.specs.RingHistory.{RingHistory, notesRing}
 use Rattle.history.specs.Ledger.{Ledger, entersEvent, notesLedger}
 use Rattle.history.proofs.Always.{answer-is, process-accepted, process-idle}
 use Rattle.history.proofs.Slots.{next-is, distance-zero, distance-self, distance-next}
-use Rattle.history.proofs.Tied.{Tied, TiedTo, process-busy, process-keeps}
+use Rattle.history.proofs.Tied.{TiedTo, process-busy, process-keeps}
 
 -- a number of a chain that was not given is passed over
 skip : (t : Bool) (n rest : ℕ) → (refuse t n rest ≡ n → ⊥) → refuse t n rest ≡ rest

@@ -1,21 +1,19 @@
 -- CREDITS stays even with what was consumed and returned.
 -- Assumes nothing.
-use Prim.Native.Nat.{ℕ, _+_, _-_, _≤_}
-use mathlib.Core.Path.{_≡_, refl, sym, ap, _∙_}
-use mathlib.Core.List.{List}
+use Prim.Native.Nat.{ℕ, _+_}
+use mathlib.Core.Path.{_≡_}
 use native.Mathlib.Omega.{arith}
 use Rattle.rules.specs.Ring.{completeEffect}
 use Rattle.rules.specs.Registers.{Written, access, taken, write, withRing, withLinks}
-use Rattle.rules.specs.Switch.{Switch, Borrowed, Result, readEffect, writeEffect, linked, processEffect, framed, headed, refusal, effect}
-use Rattle.rules.specs.declared.Ring.{Ring}
+use Rattle.rules.specs.Switch.{Switch, Borrowed, readEffect, writeEffect, linked, processEffect, framed, headed, refusal, effect}
 use Rattle.rules.specs.declared.Registers.{Registers}
 use Rattle.rules.specs.declared.Request.{Request}
 use Rattle.rules.specs.declared.Request.the-variants.{Read, Write, Link, Process, Frame, Header}
-use Rattle.history.specs.Trace.{Seen, seen}
+use Rattle.history.specs.Trace.{seen}
 use Rattle.history.specs.Events.{Event, event, writeEvent}
 use Rattle.history.specs.Events.Event.{Other, WritesBase, WritesSize, WritesHead, WritesCredits, ResetsRing, ResetsDevice, Processes}
 use Rattle.history.specs.Tally.{Tally, noTally, tallies, notesTally}
-use Rattle.history.proofs.Writes.{Leaves, Does, write-does}
+use Rattle.history.proofs.Writes.{Does, write-does}
 
 abbrev pub Even : ℕ → Tally → Type 0
 Even credits t = credits + t .returned ≡ t .consumed

@@ -1,18 +1,16 @@
 -- The journal reads back as the switch's tables and the charge.
 -- Assumes nothing.
-use Prim.Native.Nat.{ℕ, _+_, _≤_, _<_}
+use Prim.Native.Nat.{ℕ, _≤_}
 use mathlib.Core.Bool.{Bool, true, false}
-use mathlib.Core.Path.{_≡_, refl, sym, ap, _∙_}
-use mathlib.Core.List.{List, [], _∷_, _++_, append-assoc, append-nil}
+use mathlib.Core.Path.{_≡_, refl}
+use mathlib.Core.List.{_++_, append-assoc, append-nil}
 use native.Mathlib.Omega.{arith}
-use lib.ListN.{length}
 use Rattle.rules.specs.Choose.{choose}
 use Rattle.rules.specs.Descriptor.{descriptorAt, descriptor, fetch}
 use Rattle.rules.specs.Registers.{Written, access, taken, write, withRing, withLinks}
 use Rattle.rules.specs.Tables.{Tables, emptyTables}
-use Rattle.rules.specs.Journal.{Progress, Reader, begin, ready, feeds, counted, header, completion}
-use Rattle.rules.specs.Switch.{Switch, Borrowed, Result, Carried, carry, carriedSlot, slotRecord, readEffect, writeEffect, linked, processEffect, framed, headed, refusal, effect}
-use Rattle.rules.specs.declared.Registers.{Registers}
+use Rattle.rules.specs.Journal.{Progress, begin, ready, feeds, counted, header, completion}
+use Rattle.rules.specs.Switch.{Switch, Borrowed, Carried, carry, carriedSlot, slotRecord, readEffect, writeEffect, linked, processEffect, framed, headed, refusal, effect}
 use Rattle.rules.specs.declared.Request.{Request}
 use Rattle.rules.specs.declared.Request.the-variants.{Read, Write, Link, Process, Frame, Header}
 use Rattle.rules.proofs.Journal.{feeds-append, record-reads, header-opens}
@@ -21,7 +19,7 @@ use Rattle.history.specs.Trace.{Seen, seen}
 use Rattle.history.specs.Events.{Event, event, writeEvent}
 use Rattle.history.specs.Events.Event.{Other, WritesBase, WritesSize, WritesHead, WritesCredits, ResetsRing, ResetsDevice, Processes}
 use Rattle.history.specs.Ledger.{Ledger, blank, enters, entersEvent, notesLedger}
-use Rattle.history.proofs.Writes.{Leaves, Does, write-does}
+use Rattle.history.proofs.Writes.{Does, write-does}
 use Rattle.history.proofs.Tied.{process-written}
 
 -- what replay is to come to

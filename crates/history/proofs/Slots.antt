@@ -3,11 +3,10 @@
 use Prim.Native.Nat.{ℕ, zero, suc, _+_, _-_, _%_, _≤_, _<_}
 use native.Mathlib.Nat.{mod-eq-of-lt, mod-lt, mod-self, zero-mod, sub-zero, add-mod-right, mod-add-mod, zero-add, add-zero, suc-add}
 use native.Mathlib.Omega.{arith}
-use mathlib.Core.Path.{_≡_, refl, ap, _∙_}
-use mathlib.Core.List.{List, [], _∷_, _++_}
+use mathlib.Core.Path.{_≡_, refl, ap}
+use mathlib.Core.List.{_++_}
 use lib.ListN.{length}
 use borrow.Author.Tests.{lt-ltb, le-ltb}
-use Rattle.rules.specs.Choose.{choose}
 use Rattle.rules.specs.Ring.{distance, nextSlot}
 use Rattle.rules.proofs.Cases.{by-lt, by-le}
 use Rattle.history.specs.RingHistory.{slots}

@@ -1,32 +1,32 @@
 -- The ring's registers stay tied to its history.
 -- Assumes nothing.
-use Prim.Native.Nat.{ℕ, zero, suc, _+_, _-_, _%_, _≤_, _<_}
+use Prim.Native.Nat.{ℕ, _+_, _-_, _%_, _≤_, _<_}
 use mathlib.Core.Bool.{Bool, true, false}
-use mathlib.Core.Path.{_≡_, refl, sym, ap, _∙_}
+use mathlib.Core.Path.{_≡_, refl}
 use mathlib.Core.Logic.{_↔_}
-use mathlib.Core.List.{List, [], _∷_, _++_, append-assoc}
+use mathlib.Core.List.{List, _++_, append-assoc}
 use native.Mathlib.Omega.{arith}
 use lib.ListN.{length, take, length-append}
 use lib.Seq.{take-append-seam}
-use lib.Dec.{leb, eqb}
+use lib.Dec.{eqb}
 use borrow.Author.Tests.{eqb-false}
-use Rattle.rules.specs.Choose.{choose, refuse}
+use Rattle.rules.specs.Choose.{refuse}
 use Rattle.rules.specs.Bytes.{leAt}
 use Rattle.rules.specs.Ring.{distance, completeEffect}
 use Rattle.rules.specs.Registers.{Written, access, taken, write, withRing, withLinks}
-use Rattle.rules.specs.Switch.{Switch, Borrowed, Result, Carried, carriedSlot, slotRecord, processRefusal, readEffect, writeEffect, linked, processEffect, framed, headed, refusal, effect}
+use Rattle.rules.specs.Switch.{Switch, Borrowed, carriedSlot, slotRecord, processRefusal, readEffect, writeEffect, linked, processEffect, framed, headed, refusal, effect}
 use Rattle.rules.specs.declared.Ring.{Ring}
 use Rattle.rules.specs.declared.Registers.{Registers}
 use Rattle.rules.specs.declared.Request.{Request}
 use Rattle.rules.specs.declared.Request.the-variants.{Read, Write, Link, Process, Frame, Header}
 use Rattle.rules.proofs.Bytes.{take-splice}
 use Rattle.rules.proofs.Journal.{record-slot}
-use Rattle.history.specs.Trace.{Seen, seen}
+use Rattle.history.specs.Trace.{seen}
 use Rattle.history.specs.Events.{Event, event, writeEvent}
 use Rattle.history.specs.Events.Event.{Other, WritesBase, WritesSize, WritesHead, WritesCredits, ResetsRing, ResetsDevice, Processes}
 use Rattle.history.specs.RingHistory.{RingHistory, emptied, slots, posts, consumes, notesEvent, notesRing}
 use Rattle.history.proofs.Slots.{next-is, next-in, distance-start, distance-self, distance-zero, distance-add, distance-next, lands, slots-length, slots-add}
-use Rattle.history.proofs.Writes.{Leaves, Does, write-does}
+use Rattle.history.proofs.Writes.{Does, write-does}
 
 -- what is posted is what was consumed and then the slots from tail to head
 pub record Tied (size head tail : ℕ) (b : RingHistory) : Type 0 where

@@ -1,16 +1,15 @@
 -- What an accepted register write does to the ring and the tables, by its event: the one place that goes through the registers.
 -- Assumes nothing.
-use Prim.Native.Nat.{ℕ, zero, suc, _+_, _-_, _*_, _%_, _^_, _≤_, _<_}
+use Prim.Native.Nat.{ℕ, zero, suc, _+_, _-_, _%_, _^_, _≤_, _<_}
 use mathlib.Core.Bool.{Bool, true, false, not, _&&_, _||_}
-use mathlib.Core.Path.{_≡_, refl, sym, ap, _∙_}
+use mathlib.Core.Path.{_≡_, refl, sym}
 use native.Mathlib.Omega.{arith}
 use native.Mathlib.Nat.{pow-le-pow-right}
 use lib.Dec.{ltb, leb, eqb}
-use borrow.Author.Tests.{ltb-true, ltb-false, leb-true, eqb-true, not-true, not-false}
+use borrow.Author.Tests.{ltb-true, ltb-false, leb-true, eqb-true, not-false}
 use Rattle.rules.specs.Choose.{choose, refuse}
-use Rattle.rules.specs.Ring.{zeroRing, distance, outstanding, advance, baseRefusal, baseEffect, powerUpTo, sizeRefusal, sizeEffect, headRefusal, headEffect, creditsRefusal, creditsEffect, ctrlEffect}
-use Rattle.rules.specs.Registers.{Written, access, accessRefusal, upperOf, narrowAt, coveredBy, wideAt, isWide, registerAt, withRing, withLinks, withTest, withTest64, withEnable, freshRegisters, resetRegisters, sets, store, latchOf, baseLatched, latchEffect, taken, joined, writeTo, unlessRefused, write}
-use Rattle.rules.specs.declared.Ring.{Ring}
+use Rattle.rules.specs.Ring.{zeroRing, distance, outstanding, advance, baseEffect, powerUpTo, sizeRefusal, sizeEffect, headRefusal, headEffect, creditsRefusal, creditsEffect, ctrlEffect}
+use Rattle.rules.specs.Registers.{Written, access, upperOf, narrowAt, coveredBy, wideAt, isWide, registerAt, withRing, withLinks, withTest, withTest64, withEnable, freshRegisters, resetRegisters, sets, store, baseLatched, latchEffect, taken, joined, writeTo, unlessRefused, write}
 use Rattle.rules.specs.declared.Registers.{Registers}
 use Rattle.rules.specs.declared.Register.{Register}
 use Rattle.rules.specs.declared.Register.the-variants.{Magic, TestReg, TestReg64, Control, PortPhysCount, PortPhysLinkStatus, PortPhysEnable, SwitchId, BaseAddr, Size, Head, Tail, Ctrl, Credits}

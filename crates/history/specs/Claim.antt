@@ -1,16 +1,16 @@
 -- DEMAND 3. What holds after every list of calls on a fresh device, whatever guest memory, frames, buffers and lists held at each of
 -- them. `step` is what `device::call` is proved equal to; `ring`, `ledger` and `tally` are what observers made of the trace.
-use Prim.Native.Nat.{ℕ, _+_, _*_, _≤_}
+use Prim.Native.Nat.{ℕ, _+_, _*_}
 use mathlib.Core.Bool.{true}
 use mathlib.Core.Path.{_≡_}
 use mathlib.Core.Logic.{_↔_}
-use mathlib.Core.List.{List, [], _∷_, _++_}
+use mathlib.Core.List.{List, _++_}
 use lib.ListN.{length, take}
 use Rattle.rules.specs.Bytes.{leAt, bytesOf, splice}
 use Rattle.rules.specs.Ring.{outstanding}
-use Rattle.rules.specs.Journal.{Progress, Replayed, recordAgrees, tablesAfter, counted, replay, header, completion}
+use Rattle.rules.specs.Journal.{Progress, recordAgrees, tablesAfter, counted, replay, header, completion}
 use Rattle.rules.specs.Journal.Replayed.{Replays}
-use Rattle.rules.specs.Switch.{Switch, Borrowed, Result, step}
+use Rattle.rules.specs.Switch.{Switch, Borrowed, step}
 use Rattle.rules.specs.declared.Status.the-variants.{Ok}
 use Rattle.rules.specs.declared.Request.the-variants.{Process, Header}
 use Rattle.history.specs.Trace.{Seen, Untroubled, final, trace, processes, observe}

@@ -1,6 +1,5 @@
 -- What an accepted call is to the ring and to the journal, by its arguments alone.
 use Prim.Native.Nat.{ℕ, _%_}
-use mathlib.Core.Bool.{Bool}
 use lib.Dec.{eqb}
 use Rattle.rules.specs.Choose.{choose}
 use Rattle.rules.specs.Registers.{access, taken}

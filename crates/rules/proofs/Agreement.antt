@@ -1,12 +1,12 @@
 -- What a process call records of a slot, replay agrees with.
 -- Assumes nothing.
-use Prim.Native.Nat.{ℕ, _+_, _%_, _≤_, _<_}
-use mathlib.Core.Bool.{Bool, true, false, not, _&&_, _||_}
-use mathlib.Core.Path.{_≡_, refl, sym, ap, _∙_}
-use mathlib.Core.List.{List, [], _∷_}
+use Prim.Native.Nat.{ℕ, _%_, _≤_}
+use mathlib.Core.Bool.{Bool, true, false, not, _&&_}
+use mathlib.Core.Path.{_≡_, refl}
+use mathlib.Core.List.{List, []}
 use native.Mathlib.Omega.{arith}
 use lib.Dec.{ltb, leb, eqb}
-use lib.ListN.{length, take, drop, length-take}
+use lib.ListN.{length, length-take}
 use borrow.Author.Tests.{ltb-false, le-leb, eq-eqb}
 use Rattle.rules.specs.Choose.{choose}
 use Rattle.rules.specs.Answers.{code}
@@ -14,15 +14,14 @@ use Rattle.rules.specs.Bytes.{part, inside}
 use Rattle.rules.specs.Descriptor.{Fetched, fetch}
 use Rattle.rules.specs.Descriptor.Fetched.{Faulty, Payload}
 use Rattle.rules.specs.Region.{walk, tlvs, endOf, wellFormed, scan, lookup}
-use Rattle.rules.specs.Fields.{given, value, fieldsRight, isAt, numberIn, nestIn}
-use Rattle.rules.specs.GroupId.{groupIdAllowed}
-use Rattle.rules.specs.Decode.{refused, carried, need, matchOf, flowOf, matchAllowed, flowUser, isTable, flowIn, flowKeyIn, groupOf, membersOf, groupAllowed, groupUser, groupIn, groupKeyIn, isCommand, commandIn, commandType, commandInfo, decode}
+use Rattle.rules.specs.Fields.{isAt}
+use Rattle.rules.specs.Decode.{refused, carried, need, flowIn, flowKeyIn, groupIn, groupKeyIn, commandIn, commandType, commandInfo, decode}
 use Rattle.rules.specs.Tables.{Tables, addStatus, heldStatus, commandStatus, decodedStatus, executed, carryOut, execute, cookieOf, idOf}
 use Rattle.rules.specs.Keyed.{holds}
-use Rattle.rules.specs.Journal.{completion, Progress, Reader, ready, isUnread, recordAgrees, tablesAfter, counted, recordRead}
-use Rattle.rules.specs.Switch.{Carried, carry}
+use Rattle.rules.specs.Journal.{completion, Progress, ready, isUnread, recordAgrees, tablesAfter, counted, recordRead}
+use Rattle.rules.specs.Switch.{carry}
 use Rattle.rules.specs.declared.Status.{Status}
-use Rattle.rules.specs.declared.Status.the-variants.{Ok, Enoent, Enxio, Enomem, Eexist, Einval, Emsgsize, Enotsup}
+use Rattle.rules.specs.declared.Status.the-variants.{Enxio, Einval, Emsgsize, Enotsup}
 use Rattle.rules.specs.declared.Flow.{Flow}
 use Rattle.rules.specs.declared.Group.{Group}
 use Rattle.rules.specs.declared.Command.{Command}
@@ -31,7 +30,7 @@ use Rattle.rules.specs.declared.Decoded.{Decoded}
 use Rattle.rules.specs.declared.Decoded.the-variants.{Carry, Refused}
 use Rattle.rules.specs.declared.Decoding.{Decoding}
 use Rattle.rules.specs.declared.Descriptor.{Descriptor}
-use Rattle.rules.proofs.Cases.{by-test, by-le}
+use Rattle.rules.proofs.Cases.{by-test}
 
 -- ---- A payload never ends in ENXIO or EMSGSIZE: those are a descriptor's
 

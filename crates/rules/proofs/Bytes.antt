@@ -1,13 +1,13 @@
 -- Little-endian numbers over any width, and a list written over a slice.
 -- Assumes nothing.
-use Prim.Native.Nat.{ℕ, zero, suc, _+_, _*_, _/_, _%_, _≤_, _<_, _^_}
-use mathlib.Core.Path.{_≡_, refl, ap, sym, _∙_}
+use Prim.Native.Nat.{ℕ, zero, suc, _+_, _/_, _%_, _≤_, _<_, _^_}
+use mathlib.Core.Path.{_≡_, refl, ap, _∙_}
 use mathlib.Core.List.{List, [], _∷_, _++_, append-assoc}
 use native.Mathlib.Omega.{arith}
 use native.Mathlib.Nat.{pow-suc, add-zero, one-le-pow, mod-eq-of-lt}
 use lib.Arith.{mod-mul}
 use lib.ListN.{length, length-drop, length-append, length-take, getD, take, drop, set, take-append-drop}
-use lib.Seq.{getD-drop, take-suc-set, drop-set-lt, take-append-seam, take-append-add}
+use lib.Seq.{getD-drop, take-suc-set, drop-set-lt, take-append-seam}
 use lib.Dec.{lit<}
 use Rattle.rules.specs.Bytes.{le, leAt, bytesOf, splice}
 

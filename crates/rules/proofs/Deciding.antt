@@ -1,15 +1,13 @@
 -- The deciding entry is a match that no match beats, whatever the order of storage. For any entry, test and order; then for flows.
 -- Assumes nothing.
-use Prim.Native.Nat.{ℕ, suc, zero, _+_, _-_, _<_, _≤_}
+use Prim.Native.Nat.{ℕ, _<_}
 use mathlib.Core.Bool.{Bool, true, false}
 use mathlib.Core.Option.{Option, none, some}
 use mathlib.Core.Logic.{_⊎_, inl, inr, ⊎-elim}
 use mathlib.Core.Path.{_≡_, refl, ap, sym, _∙_}
 use mathlib.Core.List.{List, [], _∷_, List·Memᴰ, List·Memᴰ·head, List·Memᴰ·tail, List·Memᴰ·cases-cons, List·Memᴰ·not-nil}
 use native.Mathlib.Omega.{arith}
-use lib.Dec.{ltb, eqb}
 use borrow.Author.Tests.{lt-ltb, ltb-true, eq-eqb}
-use Rattle.rules.specs.Choose.{choose}
 use Rattle.rules.specs.Keyed.{Above, Rising}
 use Rattle.rules.specs.Frame.{better, best, beats}
 use Rattle.rules.specs.Tables.{cookieOf}

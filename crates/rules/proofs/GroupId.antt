@@ -1,9 +1,8 @@
 -- A group ID taken apart by shifts and masks, and put together.
 -- Assumes nothing.
-use Prim.Native.Nat.{ℕ, _+_, _*_, _/_, _%_, _^_, _<_, _≤_}
-use mathlib.Core.Path.{_≡_, refl, ap, sym, _∙_}
+use Prim.Native.Nat.{ℕ, _+_, _*_, _/_, _^_, _<_}
+use mathlib.Core.Path.{_≡_, refl}
 use native.Mathlib.Omega.{arith}
-use native.Mathlib.Nat.{div-div-eq-div-mul}
 use lib.Bits.{bitAnd, and-mask}
 use Rattle.rules.specs.GroupId.{groupType, groupVlan, groupLow, memberId}
 

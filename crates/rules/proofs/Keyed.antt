@@ -1,16 +1,16 @@
 -- Lists in rising order of a key: what look-up finds after a change, and what a change keeps. For any entry and any key.
 -- Assumes nothing.
-use Prim.Native.Nat.{ℕ, suc, zero, _+_, _-_, _<_, _≤_}
+use Prim.Native.Nat.{ℕ, suc, _<_, _≤_}
 use mathlib.Core.Bool.{Bool, true, false}
 use mathlib.Core.Option.{Option, none, some}
-use mathlib.Core.Path.{_≡_, refl, ap, sym, _∙_}
+use mathlib.Core.Path.{_≡_, refl, ap}
 use mathlib.Core.List.{List, [], _∷_}
 use native.Mathlib.Omega.{arith}
-use lib.Dec.{ltb, eqb}
+use lib.Dec.{eqb}
 use lib.ListN.{length}
 use borrow.Author.Tests.{lt-ltb, le-ltb}
 use Rattle.rules.specs.Choose.{choose}
-use Rattle.rules.specs.Keyed.{place, holds, find, insert, replace, remove, Above, Rising}
+use Rattle.rules.specs.Keyed.{holds, find, insert, replace, remove, Above, Rising}
 use Rattle.rules.proofs.Cases.{by-test, by-lt, by-eq, by-order, gt-eqb, not-both}
 
 module _ {A : Type 0} (key : A → ℕ) where

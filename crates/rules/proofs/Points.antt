@@ -1,10 +1,9 @@
 -- Document 01, "On the edge, both sides": P1 to P14, and the worked example of "The trail", computed by the rules. One table, one
 -- test, one theorem.
 -- Assumes nothing.
-use Prim.Native.Nat.{ℕ, zero, suc, _+_}
+use Prim.Native.Nat.{ℕ}
 use mathlib.Core.Path.{_≡_, refl}
 use mathlib.Core.Bool.{Bool, true, false, _&&_}
-use mathlib.Core.Option.{Option, none, some}
 use mathlib.Core.List.{List, [], _∷_, _++_}
 use lib.Dec.{eqb}
 use lib.ListN.{length, take, replicate}
@@ -20,12 +19,10 @@ use Rattle.rules.specs.GroupId.{groupType, groupVlan, groupLow, vlanAllo
 use Rattle.rules.specs.Members.{elem, memberRight, collect, membersIn, membersRight, pad}
 use Rattle.rules.specs.Decode.{refused, carried, need, matchOf, flowOf, groupFits, newVlanFits, matchAllowed, flowUser, isTable, flowIn, flowKeyIn, groupOf, membersOf, groupAllowed, groupUser, groupIn, groupKeyIn, isCommand, commandIn, commandType, commandInfo, decode}
 use Rattle.rules.specs.Keyed.{place, holds, find, insert, replace, remove}
-use Rattle.rules.specs.Tables.{Tables, Executed, storedFlow, flowEntry, groupEntry, cookieOf, idOf, emptyTables, addStatus, heldStatus, commandStatus, withFlows, withGroups, commandEffect, decodedStatus, decodedEffect, executed, carryOut, execute}
+use Rattle.rules.specs.Tables.{Tables, storedFlow, flowEntry, groupEntry, emptyTables, addStatus, heldStatus, commandStatus, withFlows, withGroups, commandEffect, decodedStatus, decodedEffect, executed, carryOut, execute}
 use Rattle.rules.specs.Journal.{completion, header, recordOf, begin, ready, stopped, headerRefusal as markRefusal, headerRead, isUnread, recordAgrees, tablesAfter, counted, recordRead, whole, feed, feeds, endsIn, finished, finish, replay, digits, decimal, item, line, report}
-use Rattle.rules.specs.Switch.{Switch, Borrowed, Result, freshSwitch, unchanged, unlessRefused, readEffect, writeEffect, carry, carriedSlot, slotRecord, processRefusal, processEffect, headerRefusal, headed, refusal, effect, step}
+use Rattle.rules.specs.Switch.{Switch, Borrowed, freshSwitch, unchanged, unlessRefused, readEffect, writeEffect, carry, carriedSlot, slotRecord, processRefusal, processEffect, headerRefusal, headed, refusal, effect, step}
 use Rattle.rules.specs.declared.Ring.{Ring}
-use Rattle.rules.specs.declared.Registers.{Registers}
-use Rattle.rules.specs.declared.Request.{Request}
 use Rattle.rules.specs.declared.Request.the-variants.{Read, Write, Process, Header}
 
 -- ---- What the points are computed from

@@ -1,6 +1,6 @@
 -- The walk over a region, a TLV at a time, and folds over it.
 -- Assumes nothing.
-use Prim.Native.Nat.{ℕ, zero, suc, _+_, _*_, _/_, _-_, _≤_, _<_}
+use Prim.Native.Nat.{ℕ, zero, suc, _+_, _-_, _≤_, _<_}
 use mathlib.Core.Path.{_≡_, refl, ap, _∙_}
 use mathlib.Core.Bool.{Bool}
 use mathlib.Core.List.{List, [], _∷_}
@@ -8,7 +8,7 @@ use native.Mathlib.Omega.{arith}
 use lib.ListN.{length}
 use borrow.Author.Tests.{lt-leb, le-leb, eq-eqb, ne-eqb}
 use Rattle.rules.specs.Choose.{choose}
-use Rattle.rules.specs.Region.{valueSize, filled, tlvAt, stepAt, onward, walk, tlvs, endOf, meet, scan}
+use Rattle.rules.specs.Region.{filled, tlvAt, stepAt, onward, walk, tlvs, endOf, meet, scan}
 use Rattle.rules.specs.declared.Tlv.{Tlv}
 use Rattle.rules.specs.declared.Found.{Found}
 use Rattle.rules.specs.declared.Step.the-variants.{End, Next}

@@ -1,11 +1,8 @@
 -- A refused call changes nothing.
 -- Assumes nothing.
-use Prim.Native.Nat.{ℕ}
-use mathlib.Core.Path.{_≡_, refl}
-use lib.Dec.{eqb}
+use mathlib.Core.Path.{_≡_}
 use borrow.Author.Tests.{eq-eqb, ne-eqb}
-use Rattle.rules.specs.Choose.{choose}
-use Rattle.rules.specs.Switch.{Switch, Borrowed, Result, unchanged, unlessRefused, refusal, effect, step}
+use Rattle.rules.specs.Switch.{Switch, Borrowed, unchanged, unlessRefused, refusal, effect, step}
 use Rattle.rules.specs.declared.Request.{Request}
 
 module _ (s : Switch) (b : Borrowed) (r : Request) where

@@ -1,18 +1,17 @@
 -- What carrying a payload out keeps, and the order of statuses.
 -- Assumes nothing.
-use Prim.Native.Nat.{ℕ, suc, _+_, _<_, _≤_}
-use mathlib.Core.Bool.{Bool, true, false}
-use mathlib.Core.Path.{_≡_, refl, ap, sym, _∙_}
-use mathlib.Core.List.{List, [], _∷_}
+use Prim.Native.Nat.{ℕ, _<_, _≤_}
+use mathlib.Core.Bool.{true, false}
+use mathlib.Core.Path.{_≡_, refl}
+use mathlib.Core.List.{List}
 use native.Mathlib.Omega.{arith}
-use lib.Dec.{leb, eqb}
+use lib.Dec.{eqb}
 use lib.ListN.{length}
-use borrow.Author.Tests.{eqb-true, eqb-false, ne-eqb, le-leb, lt-leb, leb-false}
-use Rattle.rules.specs.Choose.{choose}
+use borrow.Author.Tests.{eqb-true, ne-eqb, le-leb, lt-leb}
 use Rattle.rules.specs.Answers.{code}
-use Rattle.rules.specs.Keyed.{holds, insert, replace, remove, Rising}
+use Rattle.rules.specs.Keyed.{holds, Rising}
 use Rattle.rules.specs.Decode.{decode}
-use Rattle.rules.specs.Tables.{Tables, Executed, storedFlow, flowEntry, groupEntry, cookieOf, idOf, emptyTables, addStatus, heldStatus, commandStatus, withFlows, withGroups, commandEffect, decodedStatus, decodedEffect, executed, carryOut, execute}
+use Rattle.rules.specs.Tables.{Tables, storedFlow, flowEntry, groupEntry, cookieOf, idOf, emptyTables, addStatus, commandStatus, withFlows, withGroups, commandEffect, decodedStatus, decodedEffect, executed, carryOut, execute}
 use Rattle.rules.specs.declared.Status.{Status}
 use Rattle.rules.specs.declared.Status.the-variants.{Ok, Enoent, Enxio, Enomem, Eexist, Einval, Emsgsize, Enotsup}
 use Rattle.rules.specs.declared.Match.{Match}
@@ -22,8 +21,7 @@ use Rattle.rules.specs.declared.Command.{Command}
 use Rattle.rules.specs.declared.Command.the-variants.{FlowAdd, FlowMod, FlowDel, GroupAdd, GroupMod, GroupDel}
 use Rattle.rules.specs.declared.Decoded.{Decoded}
 use Rattle.rules.specs.declared.Decoded.the-variants.{Carry, Refused}
-use Rattle.rules.specs.declared.Decoding.{Decoding}
-use Rattle.rules.proofs.Cases.{by-test, by-le, not-both}
+use Rattle.rules.proofs.Cases.{by-test, by-le}
 use Rattle.rules.proofs.Keyed.{rising-insert, rising-replace, rising-remove, length-insert, length-replace, length-remove-le}
 
 -- only OK has code 0

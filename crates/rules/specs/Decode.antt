@@ -2,7 +2,6 @@
 use Prim.Native.Nat.{ℕ, _%_}
 use mathlib.Core.Bool.{Bool, true, false, not, _&&_, _||_}
 use mathlib.Core.List.{List, []}
-use lib.ListN.{length}
 use lib.Dec.{leb, eqb}
 use Rattle.rules.specs.Choose.{choose}
 use Rattle.rules.specs.Bytes.{swap16}
@@ -19,7 +18,6 @@ use Rattle.rules.specs.declared.Match.the-variants.{IngressPort, Vlan, B
 use Rattle.rules.specs.declared.Flow.{Flow}
 use Rattle.rules.specs.declared.Command.{Command}
 use Rattle.rules.specs.declared.Command.the-variants.{FlowAdd, FlowMod, FlowDel, GroupAdd, GroupMod, GroupDel}
-use Rattle.rules.specs.declared.Decoded.{Decoded}
 use Rattle.rules.specs.declared.Decoded.the-variants.{Carry, Refused}
 use Rattle.rules.specs.declared.Decoding.{Decoding}
 

@@ -1,8 +1,8 @@
 -- "Work: one slot": the descriptor and its faults.
-use Prim.Native.Nat.{ℕ, _+_, _*_, _%_, _^_}
-use mathlib.Core.Bool.{Bool, not, _&&_}
+use Prim.Native.Nat.{ℕ, _+_, _*_, _%_}
+use mathlib.Core.Bool.{not, _&&_}
 use mathlib.Core.List.{List}
-use lib.Dec.{ltb, leb, eqb}
+use lib.Dec.{ltb, eqb}
 use Rattle.rules.specs.Choose.{choose}
 use Rattle.rules.specs.Bytes.{leAt, part, inside}
 use Rattle.rules.specs.declared.Ring.{Ring}

@@ -2,7 +2,6 @@
 use Prim.Native.Nat.{ℕ, zero, suc, _+_}
 use mathlib.Core.Bool.{Bool, true, false, not, _&&_}
 use mathlib.Core.List.{List, [], _∷_}
-use lib.ListN.{drop}
 use lib.Dec.{leb, eqb}
 use lib.Bits.{bitAnd}
 use Rattle.rules.specs.Choose.{choose}

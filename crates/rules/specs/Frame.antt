@@ -1,9 +1,9 @@
 -- "A frame's way": from a frame and its ingress port through the tables to the list of outputs (document 01: copies).
-use Prim.Native.Nat.{ℕ, _+_, _*_, _%_, _^_}
-use mathlib.Core.Bool.{Bool, true, false, not, _&&_, _||_}
+use Prim.Native.Nat.{ℕ, _%_, _^_}
+use mathlib.Core.Bool.{Bool, true, not, _&&_, _||_}
 use mathlib.Core.Option.{Option, none, some}
-use mathlib.Core.List.{List, [], _∷_, _++_}
-use lib.ListN.{length, take, drop, getD}
+use mathlib.Core.List.{List, [], _∷_}
+use lib.ListN.{length, take, getD}
 use lib.Dec.{ltb, leb, eqb}
 use lib.Bits.{bitAnd}
 use Rattle.rules.specs.Choose.{choose, refuse}
@@ -11,7 +11,7 @@ use Rattle.rules.specs.Bytes.{leAt, swap16, splice}
 use Rattle.rules.specs.Keyed.{find}
 use Rattle.rules.specs.GroupId.{groupType, groupVlan, groupLow, hasMembers, memberId}
 use Rattle.rules.specs.Registers.{portAllowed, isUp}
-use Rattle.rules.specs.Tables.{Tables, cookieOf, idOf}
+use Rattle.rules.specs.Tables.{Tables, idOf}
 use Rattle.rules.specs.declared.Registers.{Registers}
 use Rattle.rules.specs.declared.FlowEntry.{FlowEntry}
 use Rattle.rules.specs.declared.GroupEntry.{GroupEntry}

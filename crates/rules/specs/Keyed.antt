@@ -1,6 +1,6 @@
 -- Lists of entries in rising order of a key: look up, insert, replace, remove. For any entry and any key.
-use Prim.Native.Nat.{ℕ, suc, zero, _<_}
-use mathlib.Core.Bool.{Bool, true, false}
+use Prim.Native.Nat.{ℕ, suc, _<_}
+use mathlib.Core.Bool.{Bool, false}
 use mathlib.Core.Option.{Option, none, some}
 use mathlib.Core.List.{List, [], _∷_}
 use lib.Dec.{ltb, eqb}

@@ -11,7 +11,6 @@ use Rattle.rules.specs.Region.{tlvs, wellFormed}
 use Rattle.rules.specs.Fields.{ruleOf}
 use Rattle.rules.specs.GroupId.{groupType, groupVlan, groupLow}
 use Rattle.rules.specs.declared.Tlv.{Tlv}
-use Rattle.rules.specs.declared.FieldRule.{FieldRule}
 
 unfoldable pub elem : ℕ → List ℕ → Bool
 elem x [] = false

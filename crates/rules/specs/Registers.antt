@@ -1,8 +1,8 @@
 -- "Registers": the map of 0x0000 to 0x1fff, what an access reaches, reads, writes, latches (document 01: holds) and resets.
 use Prim.Native.Nat.{ℕ, _+_, _-_, _*_, _/_, _%_, _^_, min}
-use mathlib.Core.Bool.{Bool, true, false, not, _&&_, _||_}
-use lib.Dec.{ltb, leb, eqb}
-use Rattle.rules.specs.Choose.{choose, refuse}
+use mathlib.Core.Bool.{Bool, true, false, not, _&&_}
+use lib.Dec.{leb, eqb}
+use Rattle.rules.specs.Choose.{choose}
 use Rattle.rules.specs.Bytes.{bit}
 use Rattle.rules.specs.Ring.{zeroRing, baseRefusal, baseEffect, sizeRefusal, sizeEffect, headRefusal, headEffect, creditsRefusal, creditsEffect, creditsInterrupt, ctrlEffect}
 use Rattle.rules.specs.declared.Ring.{Ring}

@@ -1,7 +1,7 @@
 -- "Registers", the command ring (ring 0): what a write of each of its registers needs and does. A rule speaks of "a ring", so that
 -- it serves whichever ring holds it.
 use Prim.Native.Nat.{ℕ, zero, suc, _+_, _-_, _%_, _^_}
-use mathlib.Core.Bool.{Bool, true, false, not, _&&_, _||_}
+use mathlib.Core.Bool.{Bool, false, not, _&&_, _||_}
 use lib.Dec.{ltb, leb, eqb}
 use Rattle.rules.specs.Choose.{choose, refuse}
 use Rattle.rules.specs.declared.Ring.{Ring}

@@ -1,6 +1,6 @@
 -- One step of any call on the whole switch: the answer, and all that the call leaves behind it.
-use Prim.Native.Nat.{ℕ, _+_}
-use mathlib.Core.Bool.{Bool, true, false, not}
+use Prim.Native.Nat.{ℕ}
+use mathlib.Core.Bool.{Bool, false, not}
 use mathlib.Core.List.{List, []}
 use lib.ListN.{length}
 use lib.Dec.{ltb, leb, eqb}
@@ -11,7 +11,7 @@ use Rattle.rules.specs.Ring.{completeEffect, completeInterrupt}
 use Rattle.rules.specs.Registers.{Written, write, read, readRefusal, withRing, withLinks, freshRegisters, portCountAllowed, portAllowed, linkEffect}
 use Rattle.rules.specs.Descriptor.{Fetched, descriptorAt, descriptor, completionAt, fetch}
 use Rattle.rules.specs.Descriptor.Fetched.{Faulty, Payload}
-use Rattle.rules.specs.Tables.{Tables, Executed, emptyTables, execute, liveFlows, liveGroups, freshFlows, freshGroups}
+use Rattle.rules.specs.Tables.{Tables, emptyTables, execute, liveFlows, liveGroups, freshFlows, freshGroups}
 use Rattle.rules.specs.Frame.{Output, frameRefusal, outputs, listAfter}
 use Rattle.rules.specs.Journal.{completion, header, recordOf}
 use Rattle.rules.specs.declared.Status.{Status}

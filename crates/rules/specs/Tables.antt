@@ -1,6 +1,6 @@
 -- What a payload does to the tables: the statuses after decoding, in their order, and the tables after it.
 use Prim.Native.Nat.{ℕ}
-use mathlib.Core.Bool.{Bool, true, false}
+use mathlib.Core.Bool.{false}
 use mathlib.Core.List.{List, []}
 use lib.ListN.{length, take, replicate}
 use lib.Dec.{leb, eqb}
