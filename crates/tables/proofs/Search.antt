@@ -1,6 +1,6 @@
 -- A linear search over the live entries of an array, and what the change after it does to them.
 -- Assumes nothing.
-use Prim.Native.Nat.{ℕ, suc, zero, _+_, _-_, _<_, _≤_, min}
+use Prim.Native.Nat.{ℕ, suc, _+_, _-_, _<_, _≤_, min}
 use mathlib.Core.Bool.{Bool, true, false}
 use mathlib.Core.Path.{_≡_, refl, ap, sym, _∙_}
 use mathlib.Core.List.{List, [], _∷_}
@@ -11,7 +11,7 @@ use lib.ListN.{length, take, drop, getD, set, length-take, drop-of-length-le}
 use lib.Seq.{drop-cons, getD-take, take-set-lt}
 use borrow.Author.Tests.{lt-ltb, le-ltb}
 use Rattle.rules.specs.Keyed.{place, holds, insert, replace, remove}
-use Rattle.tables.proofs.Slots.{insertAt, without, Shifted, fill, take-without-end, take-without, place-le, holds-lt, insert-at, replace-at, remove-at, take-live}
+use Rattle.tables.proofs.Slots.{insertAt, without, Shifted, fill, take-without-end, take-without, holds-lt, insert-at, replace-at, remove-at, take-live}
 
 -- The search for the key k has passed `at` of the n live entries of es, all with lower keys, and found nothing yet
 pub record Searching {A : Type 0} (key : A → ℕ) (slots k n count : ℕ) (es : List A) (at : ℕ) (held : Bool) : Type 0 where

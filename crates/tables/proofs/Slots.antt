@@ -1,13 +1,12 @@
 -- An array with one free entry slot, which moves: what shifting entries does, and the rules by place.
 -- Assumes nothing.
 use Prim.Native.Nat.{ℕ, suc, zero, _+_, _-_, _<_, _≤_}
-use mathlib.Core.Bool.{true, false}
+use mathlib.Core.Bool.{true}
 use mathlib.Core.Path.{_≡_, refl, ap, sym, _∙_}
 use mathlib.Core.List.{List, [], _∷_, map}
 use native.Mathlib.Omega.{arith}
 use native.Mathlib.Numerals.{add-one}
 use lib.ListN.{length, take, getD, set, length-set, length-map}
-use lib.Seq.{take-set-lt}
 use Rattle.rules.specs.Keyed.{place, holds, insert, replace, remove}
 use Rattle.rules.proofs.Cases.{by-lt, by-order, not-both}
 
@@ -99,11 +98,7 @@ module _ {A : Type 0} {slots lo hi p : ℕ} {es₀ : List A} where
 -- ---- The rules by place
 
 module _ {A : Type 0} (key : A → ℕ) where
-  pub place-le : (k : ℕ) (l : List A) → place key k l ≤ length l
-  unfolding place
-  place-le k [] = omega arith
-  place-le k (g ∷ gs) = by-lt (key g) k (λ h p. simp p (omega (arith, place-le k gs))) (λ h p. simp p (omega arith))
-
+  -- a key that is held stands at one of the entries
   pub holds-lt : (k : ℕ) (l : List A) → holds key k l ≡ true → place key k l < length l
   unfolding place holds
   holds-lt k [] t = not-both (sym t)

@@ -1,4 +1,4 @@
--- What a command leaves of a table, for any table: the status as the rule gives it, and the rule's effect on the live entries at OK only.
+-- What a command leaves of a table, for flows and groups alike.
 use mathlib.Core.Path.{_≡_}
 use mathlib.Core.List.{List}
 use lib.Dec.{eqb}
@@ -7,8 +7,9 @@ use Rattle.rules.specs.Answers.{code}
 use Rattle.rules.specs.declared.Status.{Status}
 use Rattle.rules.specs.declared.Status.the-variants.{Ok}
 
+-- Of a command on the table t: `rule` is the status that the rules give it, `effect` what they make of the live entries at OK
 pub record Changed {T A : Type 0} (live : T → List A) (t : T) (rule : Status) (effect : List A) (status : Status) (table : T) : Type 0 where
   pub status-is : status ≡ rule
   pub live-is : live table ≡ choose (eqb (code rule) 0) effect (live t)
-  -- every entry slot, the free ones too
+  -- a status other than OK leaves every entry slot as it was, the free ones too
   pub kept : (rule ≡ Ok → ⊥) → table ≡ t

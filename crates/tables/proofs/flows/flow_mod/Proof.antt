@@ -1,4 +1,4 @@
--- `tables::flows::flow_mod` meets its contract.
+-- `tables::flows::flow_mod` meets its contract. The search passes entries with lower keys.
 -- Assumes nothing.
 use Prim.Native.Nat.{_-_}
 use mathlib.Core.Logic.{⊎-elim}

@@ -1,4 +1,5 @@
--- `tables::groups::group_add` meets its contract.
+-- `tables::groups::group_add` meets its contract. The search passes entries with lower keys; the shift moves the free entry slot
+-- from behind the live entries down to the key's place.
 -- Assumes nothing.
 use Prim.Native.Nat.{_-_}
 use mathlib.Core.Logic.{⊎-elim}

@@ -1,7 +1,8 @@
--- `tables::groups::group_del` meets its contract.
+-- `tables::groups::group_del` meets its contract. The search passes entries with lower keys; the shift moves the free entry slot
+-- from the key's place up to the last live entry.
 -- Assumes nothing.
-use mathlib.Core.Path.{refl}
 use Prim.Native.Nat.{_-_}
+use mathlib.Core.Path.{refl}
 use mathlib.Core.Logic.{⊎-elim}
 use native.Mathlib.Omega.{arith}
 use borrow.Author.Needs.{needs}

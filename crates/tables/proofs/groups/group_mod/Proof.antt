@@ -1,4 +1,4 @@
--- `tables::groups::group_mod` meets its contract.
+-- `tables::groups::group_mod` meets its contract. The search passes entries with lower keys.
 -- Assumes nothing.
 use Prim.Native.Nat.{_-_}
 use mathlib.Core.Logic.{⊎-elim}
