@@ -1,0 +1,122 @@
+-- `tables::flows::flow_del` meets its contract. The search passes entries with lower keys; the shift moves the free entry slot
+-- from the key's place up to the last live entry.
+-- Assumes nothing.
+use Prim.Native.Nat.{_-_}
+use mathlib.Core.Path.{refl}
+use mathlib.Core.Logic.{⊎-elim}
+use native.Mathlib.Omega.{arith}
+use borrow.Author.Needs.{needs}
+use Rattle.rules.specs.Tables.{liveFlows, cookieOf}
+use Rattle.tables.proofs.Slots.{length-mapped, Shifted, unshifted, shift-up}
+use Rattle.tables.proofs.Search.{Searching, Sought, begin, pass, stop, end, held-lt, removed}
+use Rattle.tables.proofs.Commands.{not-held, held-done}
+use Rattle.tables.proofs.flows.flow_del.Statement.{statement}
+use Rattle.tables.proofs.flows.flow_del.Tie as tie
+
+abbrev Inv-loop : tie.InvT-loop
+Inv-loop cookie next n at₀ held₀ at held = Searching cookieOf 256 cookie n (next .count) (next .entries) at held
+
+abbrev μ-loop : tie.MeasureT-loop
+μ-loop cookie next n at₀ held₀ at held = n - at
+
+abbrev Inv-loop2 : tie.InvT-loop2
+Inv-loop2 cookie next₀ n at held last i₀ next i = Shifted 256 at last at i (next₀ .entries) (next .entries)
+
+abbrev μ-loop2 : tie.MeasureT-loop2
+μ-loop2 cookie next₀ n at held last i₀ next i = last - i
+
+least-requires : tie.Need-least-requires Inv-loop μ-loop Inv-loop2 μ-loop2
+least-requires c κs = search needs
+
+loop-holds : tie.Need-loop-holds Inv-loop μ-loop Inv-loop2 μ-loop2
+loop-holds c = begin cookieOf (search (needs, length-mapped)) (c .least .ensures)
+
+mul-f : tie.Need-mul-f Inv-loop μ-loop Inv-loop2 μ-loop2
+mul-f c = search needs
+
+element-copy-out-f : tie.Need-element-copy-out-f Inv-loop μ-loop Inv-loop2 μ-loop2
+element-copy-out-f c = search needs
+
+add-at : tie.Need-add-at Inv-loop μ-loop Inv-loop2 μ-loop2
+add-at c = search needs
+
+loop-less : tie.Need-loop-less Inv-loop μ-loop Inv-loop2 μ-loop2
+loop-less c = search needs
+
+loop-again : tie.Need-loop-again Inv-loop μ-loop Inv-loop2 μ-loop2
+loop-again c = pass cookieOf (c .before .before .before .before .loop .inv) _ (c .before .before .before .loop-test .taken) (c .if1 .left)
+
+-- the key's place, and whether it stands there
+found : (c : tie.Left-loop Inv-loop μ-loop Inv-loop2 μ-loop2)
+    → Sought cookieOf 256 (c .before .before .before .args .cookie) (c .before .before .least .result) (liveFlows (c .before .before .before .args .t)) (c .before .loop .at) (c .loop-test .held)
+unfolding liveFlows
+found c =
+    let s = c .before .loop .inv in
+    ⊎-elim (λ w. end cookieOf s (w .0 .left) (w .1)) (λ w. stop cookieOf s _ (w .0 .taken) (w .3 .taken) (w .5)) (c .loop-test .came)
+
+sub-last : tie.Need-sub-last Inv-loop μ-loop Inv-loop2 μ-loop2
+sub-last c = omega (arith, held-lt (found (c .before)) (c .if2 .taken))
+
+loop2-holds : tie.Need-loop2-holds Inv-loop μ-loop Inv-loop2 μ-loop2
+loop2-holds c =
+    let s = c .before .before .loop .inv in
+    let h = held-lt (found (c .before)) (c .if2 .taken) in
+    unshifted (s .size) (omega arith) (omega arith) (omega arith)
+
+add-j : tie.Need-add-j Inv-loop μ-loop Inv-loop2 μ-loop2
+add-j c = search needs
+
+mul-f-2 : tie.Need-mul-f-2 Inv-loop μ-loop Inv-loop2 μ-loop2
+mul-f-2 c = search needs
+
+element-copy-out-f-2 : tie.Need-element-copy-out-f-2 Inv-loop μ-loop Inv-loop2 μ-loop2
+element-copy-out-f-2 c = search needs
+
+mul-f-3 : tie.Need-mul-f-3 Inv-loop μ-loop Inv-loop2 μ-loop2
+mul-f-3 c = search needs
+
+element-set-from-f : tie.Need-element-set-from-f Inv-loop μ-loop Inv-loop2 μ-loop2
+element-set-from-f c = search needs
+
+loop2-less : tie.Need-loop2-less Inv-loop μ-loop Inv-loop2 μ-loop2
+loop2-less c = search needs
+
+loop2-again : tie.Need-loop2-again Inv-loop μ-loop Inv-loop2 μ-loop2
+loop2-again c = shift-up _ (c .before .before .loop2 .inv) (c .before .loop2-test .taken)
+
+returns : tie.Need-returns Inv-loop μ-loop Inv-loop2 μ-loop2
+unfolding liveFlows
+returns c =
+    let l = c .before .before .before in
+    let h = c .before .before .if2 .taken in
+    held-done liveFlows (found l) h (removed cookieOf (l .before .before .before .args .t .count) (found l) h refl (c .before .loop2 .inv) (c .loop2-test .left))
+
+returns-2 : tie.Need-returns-2 Inv-loop μ-loop Inv-loop2 μ-loop2
+returns-2 c = not-held liveFlows (found (c .before)) (c .if2 .left)
+
+pub flow-del-spec : {M : Type 1} → statement M
+flow-del-spec =
+    tie.close
+    (tie.spec
+    Inv-loop
+    μ-loop
+    Inv-loop2
+    μ-loop2
+    least-requires
+    loop-holds
+    mul-f
+    element-copy-out-f
+    add-at
+    loop-less
+    loop-again
+    sub-last
+    loop2-holds
+    add-j
+    mul-f-2
+    element-copy-out-f-2
+    mul-f-3
+    element-set-from-f
+    loop2-less
+    loop2-again
+    returns
+    returns-2)

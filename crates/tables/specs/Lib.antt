@@ -1,0 +1,2 @@
+-- What the commands promise of a table.
+pub mod Commands
