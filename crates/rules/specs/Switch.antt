@@ -11,7 +11,7 @@ use Rattle.rules.specs.Ring.{completeEffect, completeInterrupt}
 use Rattle.rules.specs.Registers.{Written, write, read, readRefusal, withRing, withLinks, freshRegisters, portCountAllowed, portAllowed, linkEffect}
 use Rattle.rules.specs.Descriptor.{Fetched, descriptorAt, descriptor, completionAt, fetch}
 use Rattle.rules.specs.Descriptor.Fetched.{Faulty, Payload}
-use Rattle.rules.specs.Tables.{Tables, emptyTables, execute, liveFlows, liveGroups, freshFlows, freshGroups}
+use Rattle.rules.specs.Tables.{Tables, emptyTables, execute, tablesOf, freshFlows, freshGroups}
 use Rattle.rules.specs.Frame.{Output, frameRefusal, outputs, listAfter}
 use Rattle.rules.specs.Journal.{completion, header, recordOf}
 use Rattle.rules.specs.declared.Status.{Status}
@@ -27,7 +27,7 @@ pub record Switch : Type 0 where
 
 -- what a device stands for: its registers and the live entries of its tables
 unfoldable pub switchOf : Device → Switch
-switchOf d = record { registers = d .registers; tables = record { flows = liveFlows (d .flows); groups = liveGroups (d .groups) } }
+switchOf d = record { registers = d .registers; tables = tablesOf (d .flows) (d .groups) }
 
 -- ---- Fresh
 

@@ -75,6 +75,9 @@ liveFlows t = take (t .count) (t .entries)
 unfoldable pub liveGroups : GroupTable → List GroupEntry
 liveGroups t = take (t .count) (t .entries)
 
+unfoldable pub tablesOf : FlowTable → GroupTable → Tables
+tablesOf flows groups = record { flows = liveFlows flows; groups = liveGroups groups }
+
 -- a fresh device's tables: 256 flow and 128 group entry slots, all free
 unfoldable pub freshFlows : FlowTable
 freshFlows = record { count = 0; entries = replicate 256 freeFlow }
