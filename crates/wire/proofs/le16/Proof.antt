@@ -1,5 +1,5 @@
 use denote.Ref.{now}
-use Rattle.wire.proofs.Numbers.{leAt-below}
+use Rattle.rules.proofs.Bytes.{leAt-below}
 use native.Mathlib.Omega.{arith}
 use borrow.Author.Needs.{needs}
 use Rattle.wire.proofs.le16.Statement.{statement}
