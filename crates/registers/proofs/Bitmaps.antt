@@ -3,7 +3,6 @@
 use Prim.Native.Nat.{ℕ, _+_, _-_, _*_, _/_, _%_, _≤_, _<_, _^_}
 use mathlib.Core.Path.{_≡_, _∙_}
 use mathlib.Core.Bool.{true, false, _&&_}
-use mathlib.Core.Logic.{⊎-elim}
 use native.Mathlib.Omega.{arith}
 use native.Mathlib.Nat.{div-eq-of-lt, one-mul, mod-lt, mul-le-mul-right, add-mul}
 use lib.Dec.{eqb, leb, lit<}
@@ -13,7 +12,7 @@ use borrow.Author.Tests.{eqb-true, eqb-false, leb-true}
 use Rattle.rules.specs.Bytes.{bit}
 use Rattle.rules.specs.Registers.{portCountAllowed, portAllowed}
 use Rattle.rules.specs.declared.Registers.{Registers}
-use Rattle.registers.proofs.Tests.{le-or-lt, and-left, and-right}
+use Rattle.rules.proofs.Cases.{by-le, and-left, and-right}
 
 -- a bit by shift and mask
 pub bit-masked : (p v : ℕ) → eqb (bitAnd (v / 2 ^ p) 1) 1 ≡ bit p v
@@ -34,10 +33,9 @@ one-shifted p h = shl-exact 1 p 64 (lit< tt) (omega arith) ∙ one-mul (2 ^ p)
 pub set-below : (p v : ℕ) → bit p v ≡ true → 2 ^ p ≤ v
 unfolding bit
 set-below p v e =
-    ⊎-elim
-    (λ h. h)
-    (λ h. let q : v / 2 ^ p ≡ 0 = div-eq-of-lt h in omega (arith, eqb-true (v / 2 ^ p % 2) 1 e))
-    (le-or-lt (2 ^ p) v)
+    by-le (2 ^ p) v
+    (λ h p′. h)
+    (λ h p′. let q : v / 2 ^ p ≡ 0 = div-eq-of-lt h in omega (arith, eqb-true (v / 2 ^ p % 2) 1 e))
 
 -- one that is not can be added
 pub clear-room : (p v : ℕ) → p < 64 → v < 2 ^ 64 → bit p v ≡ false → v + 2 ^ p < 2 ^ 64

@@ -13,7 +13,7 @@ use Rattle.rules.specs.declared.Located.{Located}
 use Rattle.rules.specs.declared.Located.the-variants.{Nowhere, Here}
 use Rattle.rules.specs.declared.Access.the-variants.{NotAllowed, Reserved, Whole, Lower, Upper}
 use Rattle.registers.specs.Shapes.{isNarrow, isEight, Bounded}
-use Rattle.registers.proofs.Tests.{and-left, and-right, true-or-false}
+use Rattle.rules.proofs.Cases.{and-left, and-right, true-or-false}
 
 module _ (offset width : ℕ) where
   pub access-narrow : isNarrow offset width ≡ true → access offset width ≡ narrowAt (registerAt offset) (registerAt (offset - 4))

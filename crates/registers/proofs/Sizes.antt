@@ -3,13 +3,13 @@
 use Prim.Native.Nat.{ℕ, zero, suc, _+_, _≤_, _<_, _^_}
 use mathlib.Core.Path.{_≡_, refl}
 use mathlib.Core.Bool.{Bool, true, false, _||_}
-use mathlib.Core.Logic.{_⊎_, inl, inr, ⊎-elim}
+use mathlib.Core.Logic.{_⊎_, inl, inr}
 use native.Mathlib.Omega.{arith}
 use lib.Dec.{eqb}
 use native.Mathlib.Nat.{mod-lt}
 use Rattle.rules.specs.declared.Ring.{Ring}
 use borrow.Author.Tests.{eq-eqb, ne-eqb}
-use Rattle.registers.proofs.Tests.{le-or-lt}
+use Rattle.rules.proofs.Cases.{by-le}
 use Rattle.rules.specs.Ring.{powerUpTo, distance, outstanding, advance}
 
 -- the number is one of 2 ^ i and the n powers after it
@@ -20,10 +20,9 @@ Power (suc n) i v = (v ≡ 2 ^ i) ⊎ Power n (suc i) v
 listed : (n i j v : ℕ) → i ≤ j → j ≤ i + n → v ≡ 2 ^ j → Power n i v
 listed zero i j v a b e = let q : j ≡ i = omega arith in rw q at e
 listed (suc n) i j v a b e =
-    ⊎-elim
-    (λ h. let q : j ≡ i = omega arith in inl (rw q at e))
-    (λ h. inr (listed n (suc i) j v (omega arith) (omega arith) e))
-    (le-or-lt j i)
+    by-le j i
+    (λ h p′. let q : j ≡ i = omega arith in inl (rw q at e))
+    (λ h p′. inr (listed n (suc i) j v (omega arith) (omega arith) e))
 
 or-true : (a : Bool) {b : Bool} → b ≡ true → (a || b) ≡ true
 or-true true e = refl
@@ -33,10 +32,9 @@ is-power : (k i v : ℕ) → 0 < i → i ≤ k → v ≡ 2 ^ i → powerUpTo k v
 unfolding powerUpTo
 is-power zero i v a b e = absurd (omega arith)
 is-power (suc k) i v a b e =
-    ⊎-elim
-    (λ h. or-true (eqb v (2 ^ suc k)) (is-power k i v a h e))
-    (λ h. let q : i ≡ suc k = omega arith in rw (eq-eqb v (2 ^ suc k) (rw q at e)))
-    (le-or-lt i k)
+    by-le i k
+    (λ h p′. or-true (eqb v (2 ^ suc k)) (is-power k i v a h e))
+    (λ h p′. let q : i ≡ suc k = omega arith in rw (eq-eqb v (2 ^ suc k) (rw q at e)))
 
 power-from : (n i k v : ℕ) → 0 < i → i + n ≤ k → Power n i v → powerUpTo k v ≡ true
 power-from zero i k v a b e = is-power k i v a (omega arith) e

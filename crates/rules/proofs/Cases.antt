@@ -3,7 +3,7 @@
 -- Assumes nothing.
 use Prim.Native.Nat.{ℕ, _<_, _≤_}
 use mathlib.Core.Bool.{Bool, true, false, _&&_}
-use mathlib.Core.Path.{_≡_, refl}
+use mathlib.Core.Path.{_≡_, refl, sym, _∙_}
 use native.Mathlib.Omega.{arith}
 use lib.Dec.{ltb, leb, eqb}
 use borrow.Author.Tests.{ltb-true, ltb-false, leb-true, leb-false, eqb-true, eqb-false, ne-eqb}
@@ -38,6 +38,9 @@ gt-eqb a b h = ne-eqb a b (omega arith)
 -- a test cannot come out both ways
 pub not-both : {G : Type 0} → true ≡ false → G
 not-both e = absurd (let z : _≡_ {A = ℕ} 0 1 = cc in omega arith)
+
+pub true-or-false : {G : Type 0} (b : Bool) → b ≡ true → b ≡ false → G
+true-or-false b p q = not-both (sym p ∙ q)
 
 -- the parts of a conjunction of tests
 pub and-left : (a b : Bool) → a && b ≡ true → a ≡ true

@@ -1,4 +1,4 @@
-use Rattle.registers.proofs.Tests.{true-or-false}
+use Rattle.rules.proofs.Cases.{true-or-false}
 use mathlib.Core.Path.{_≡_, refl}
 use mathlib.Core.Bool.{true}
 use Prim.Native.Nat.{_<_, _^_}
