@@ -1,0 +1,41 @@
+-- What a call promises: every part of its outcome is the one of the rules' step.
+use Prim.Native.Nat.{ℕ}
+use mathlib.Core.Bool.{false}
+use mathlib.Core.Path.{_≡_}
+use mathlib.Core.List.{List}
+use lib.Dec.{eqb}
+use Rattle.rules.specs.Choose.{choose}
+use Rattle.rules.specs.Answers.{number}
+use Rattle.rules.specs.Switch.{Switch, Borrowed, Result, switchOf, freshRefusal, freshDevice}
+use Rattle.rules.specs.declared.Answer.{Answer}
+use Rattle.rules.specs.declared.Device.{Device}
+use Rattle.device.specs.declared.Called.{Called}
+use Rattle.device.specs.declared.Made.{Made}
+
+-- of a call r on the device d: what guest memory, buffer and list hold after it, and the rules' result of it
+pub record Outcome (r : Called) (d : Device) (memory buffer list : List ℕ) (of : Result) : Type 0 where
+  pub answer-is : number (r .answer) ≡ of .answer
+  pub value-is : r .value ≡ of .value
+  pub interrupt-is : r .interrupt ≡ of .interrupt
+  pub completed-is : r .completed ≡ of .completed
+  pub length-is : r .length ≡ of .length
+  pub outputs-are : r .outputs ≡ of .outputs
+  pub memory-is : memory ≡ of .memory
+  pub buffer-is : buffer ≡ of .buffer
+  pub list-is : list ≡ of .list
+  pub switch-is : switchOf (r .device) ≡ of .switch
+  -- a refused call leaves every part of the device as it was, free entry slots too
+  pub kept : (of .answer ≡ 0 → ⊥) → r .device ≡ d
+
+-- what a call borrows
+unfoldable pub borrowed : List ℕ → List ℕ → List ℕ → List ℕ → Borrowed
+borrowed memory frame buffer list = record { memory = memory; frame = frame; buffer = buffer; list = list }
+
+-- an answer and nothing else
+unfoldable pub quiet : Device → Answer → Called
+quiet d a = record { answer = a; value = 0; interrupt = false; completed = 0; length = 0; outputs = 0; device = d }
+
+-- a fresh device; refused, all zero
+pub record Makes (r : Made) (ports id : ℕ) : Type 0 where
+  pub answer-is : number (r .answer) ≡ freshRefusal ports
+  pub device-is : r .device ≡ choose (eqb (freshRefusal ports) 0) (freshDevice ports id) (freshDevice 0 0)

@@ -1,0 +1,145 @@
+// The device and its public calls. Every call takes the device by value and gives it back, answers with a number of document 01,
+// and has the whole outcome in its contract: the answer, the device after it, and each borrowed byte.
+
+use rules::Answer;
+use rules::Device;
+use rules::Registers;
+ghost use mathlib.Core.Path.{_≡_};
+ghost use mathlib.Core.List.{List};
+ghost use Prim.Native.Nat.{ℕ};
+ghost use Rattle.rules.specs.Tables.{tablesOf, emptyTables};
+ghost use Rattle.rules.specs.Switch.{Borrowed, switchOf, step};
+ghost use Rattle.rules.specs.declared.Request.the-variants.{Read, Write, Link, Process, Frame, Header};
+ghost use Rattle.device.specs.Outcome.{Outcome, Makes, borrowed, quiet};
+
+// What a call gives: the answer; the value that a read gives; whether vector 0 was raised; the completion that process wrote, 0 for
+// none; how many bytes were written into the buffer, and how many outputs into the list; the device after it.
+pub struct Called {
+    pub answer: Answer,
+    pub value: u64,
+    pub interrupt: bool,
+    pub completed: u16,
+    pub length: usize,
+    pub outputs: usize,
+    pub device: Device,
+}
+
+// What `fresh` gives. Refused, the struct is all zero, and no device.
+pub struct Made {
+    pub answer: Answer,
+    pub device: Device,
+}
+
+// An answer and nothing else.
+fn answered(d: Device, answer: Answer) -> Called
+    ensures { λ r. ⌜ r ≡ quiet d answer ⌝ }
+{
+    Called {
+        answer: answer,
+        value: 0,
+        interrupt: false,
+        completed: 0,
+        length: 0,
+        outputs: 0,
+        device: d,
+    }
+}
+
+// The device with other registers.
+fn with_registers(d: Device, registers: Registers) -> Device
+    ensures { λ r. ⌜ (r .registers ≡ registers) × (r .flows ≡ d .flows) × (r .groups ≡ d .groups) ⌝ }
+{
+    let flows = d.flows;
+    let groups = d.groups;
+    Device {
+        registers: registers,
+        flows: flows,
+        groups: groups,
+    }
+}
+
+// A new device: 1 to 62 ports, all links down, the tables empty.
+pub fn fresh(ports: u64, switch_id: u64) -> Made
+    ensures { λ r. ⌜ Makes r ports «switch_id» ⌝ }
+{
+    let made = registers::fresh(ports, switch_id);
+    let answer = made.answer;
+    let registers = made.registers;
+    let flows = tables::fresh_flows();
+    let groups = tables::fresh_groups();
+    Made {
+        answer: answer,
+        device: Device {
+            registers: registers,
+            flows: flows,
+            groups: groups,
+        },
+    }
+}
+
+// The owner sets a port's link up or down.
+pub fn link(d: Device, port: u64, up: bool) -> Called
+    ensures { λ r. ⌜ ((b : Borrowed) → Outcome r d (b .memory) (b .buffer) (b .list) (step (switchOf d) b (Link port up))) ⌝ }
+{
+    let regs = d.registers;
+    let after = registers::link(regs, port, up);
+    let answer = after.answer;
+    let registers = after.registers;
+    answered(with_registers(d, registers), answer)
+}
+
+// A register read.
+pub fn read(d: Device, offset: u64, width: u64) -> Called
+    ensures { λ r. ⌜ ((b : Borrowed) → Outcome r d (b .memory) (b .buffer) (b .list) (step (switchOf d) b (Read offset width))) ⌝ }
+{
+    let regs = d.registers;
+    let got = registers::read(regs, offset, width);
+    let answer = got.answer;
+    let value = got.value;
+    let mut r = answered(d, answer);
+    r.value = value;
+    r
+}
+
+// The device with empty tables: all entry slots are free.
+fn emptied(d: Device) -> Device
+    ensures { λ r. ⌜ (r .registers ≡ d .registers) × (tablesOf (r .flows) (r .groups) ≡ emptyTables) ⌝ }
+{
+    let mut next = d;
+    next.flows.count = 0;
+    next.groups.count = 0;
+    next
+}
+
+// A register write. The tables are touched by a device reset alone.
+pub fn write(d: Device, offset: u64, width: u64, value: u64) -> Called
+    ensures { λ r. ⌜ ((b : Borrowed) → Outcome r d (b .memory) (b .buffer) (b .list) (step (switchOf d) b (Write offset width value))) ⌝ }
+{
+    let regs = d.registers;
+    let w = registers::write(regs, offset, width, value);
+    let answer = w.answer;
+    let registers = w.registers;
+    let after = with_registers(d, registers);
+    if w.resets {
+        let mut r = answered(emptied(after), answer);
+        r.interrupt = w.interrupt;
+        return r;
+    }
+    let mut r = answered(after, answer);
+    r.interrupt = w.interrupt;
+    r
+}
+
+// The journal's header, to the start of the buffer.
+pub fn header(d: Device, buffer: &mut [u8]) -> Called
+    ensures { λ r. ⌜ ((memory frame list : List ℕ) → Outcome r d memory (now (buffer .exit)) list (step (switchOf d) (borrowed memory frame (now (buffer .entry)) list) Header)) ⌝ }
+{
+    if buffer.len() < 6 {
+        return answered(d, Answer::BufferShort);
+    }
+    let regs = d.registers;
+    let n = journal::writer::header(buffer, regs.ports);
+    let mut r = answered(d, Answer::Done);
+    r.length = n;
+    r
+}
