@@ -1,6 +1,8 @@
 // The device and its public calls. Every call takes the device by value and gives it back, answers with a number of document 01,
 // and has the whole outcome in its contract: the answer, the device after it, and each borrowed byte.
 
+mod slot;
+
 use rules::Answer;
 use rules::Device;
 use rules::Registers;
