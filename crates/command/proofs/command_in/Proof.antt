@@ -1,0 +1,95 @@
+use Rattle.rules.specs.Decode.{commandIn}
+use borrow.Author.Tests.{eq-eqb, ne-eqb}
+use borrow.Author.Needs.{needs}
+use Rattle.command.proofs.command_in.Statement.{statement}
+use Rattle.command.proofs.command_in.Tie as tie
+
+flow-in-requires : tie.Need-flow-in-requires
+flow-in-requires c κs = search needs
+
+flow-in-requires-2 : tie.Need-flow-in-requires-2
+flow-in-requires-2 c κs = search needs
+
+flow-key-in-requires : tie.Need-flow-key-in-requires
+flow-key-in-requires c κs = search needs
+
+group-in-requires : tie.Need-group-in-requires
+group-in-requires c κs = search needs
+
+group-in-requires-2 : tie.Need-group-in-requires-2
+group-in-requires-2 c κs = search needs
+
+group-key-in-requires : tie.Need-group-key-in-requires
+group-key-in-requires c κs = search needs
+
+returns : tie.Need-returns
+unfolding commandIn
+returns c = simp (eq-eqb _ _ (c .before .if1 .taken)) (c .flow-in .ensures)
+
+returns-2 : tie.Need-returns-2
+unfolding commandIn
+returns-2 c = simp (ne-eqb _ _ (c .before .before .if1 .left), eq-eqb _ _ (c .before .if2 .taken)) (c .flow-in2 .ensures)
+
+returns-3 : tie.Need-returns-3
+unfolding commandIn
+returns-3 c =
+    simp (
+      ne-eqb _ _ (c .before .before .before .if1 .left),
+      ne-eqb _ _ (c .before .before .if2 .left),
+      eq-eqb _ _ (c .before .if3 .taken),
+    )
+    (c .flow-key-in .ensures)
+
+returns-4 : tie.Need-returns-4
+unfolding commandIn
+returns-4 c =
+    simp (
+      ne-eqb _ _ (c .before .before .before .before .if1 .left),
+      ne-eqb _ _ (c .before .before .before .if2 .left),
+      ne-eqb _ _ (c .before .before .if3 .left),
+      eq-eqb _ _ (c .before .if4 .taken),
+    )
+    (c .group-in .ensures)
+
+returns-5 : tie.Need-returns-5
+unfolding commandIn
+returns-5 c =
+    let e = c .before .before in
+    simp (
+      ne-eqb _ _ (e .before .before .before .if1 .left),
+      ne-eqb _ _ (e .before .before .if2 .left),
+      ne-eqb _ _ (e .before .if3 .left),
+      ne-eqb _ _ (e .if4 .left),
+      eq-eqb _ _ (c .before .if5 .taken),
+    )
+    (c .group-in2 .ensures)
+
+returns-6 : tie.Need-returns-6
+unfolding commandIn
+returns-6 c =
+    let e = c .before .before in
+    simp (
+      ne-eqb _ _ (e .before .before .before .if1 .left),
+      ne-eqb _ _ (e .before .before .if2 .left),
+      ne-eqb _ _ (e .before .if3 .left),
+      ne-eqb _ _ (e .if4 .left),
+      ne-eqb _ _ (c .before .if5 .left),
+    )
+    (c .group-key-in .ensures)
+
+pub command-in-spec : {M : Type 1} → statement M
+command-in-spec =
+    tie.close
+    (tie.spec
+    flow-in-requires
+    flow-in-requires-2
+    flow-key-in-requires
+    group-in-requires
+    group-in-requires-2
+    group-key-in-requires
+    returns
+    returns-2
+    returns-3
+    returns-4
+    returns-5
+    returns-6)

@@ -1,0 +1,147 @@
+use Rattle.rules.specs.Decode.{need, commandType, commandInfo, decode}
+use borrow.Author.Tests.{not-true, not-false}
+use mathlib.Core.Bool.{_&&_}
+use borrow.Author.Needs.{needs}
+use Rattle.command.proofs.decode.Statement.{statement}
+use Rattle.command.proofs.decode.Tie as tie
+
+find-requires : tie.Need-find-requires
+find-requires c κs = search needs
+
+find-requires-2 : tie.Need-find-requires-2
+find-requires-2 c κs = search needs
+
+well-formed-requires : tie.Need-well-formed-requires
+well-formed-requires c κs = search needs
+
+is-at-requires : tie.Need-is-at-requires
+is-at-requires c κs = search needs
+
+is-at-requires-2 : tie.Need-is-at-requires-2
+is-at-requires-2 c κs = search needs
+
+refused-requires : tie.Need-refused-requires
+refused-requires c κs = search needs
+
+returns : tie.Need-returns
+unfolding decode need commandType commandInfo
+returns c =
+    let i = c .before .before in
+    let w = i .before .before in
+    simp (
+      ← w .before .before .find .ensures,
+      ← w .before .find2 .ensures,
+      ← w .well-formed .ensures,
+      ← i .before .is-at .ensures,
+      ← i .is-at2 .ensures,
+      not-true (w .well-formed .result && i .before .is-at .result && i .is-at2 .result) (c .before .if1 .taken),
+    )
+    (c .refused .ensures)
+
+number-in-requires : tie.Need-number-in-requires
+number-in-requires c κs = search needs
+
+is-command-requires : tie.Need-is-command-requires
+is-command-requires c κs = search needs
+
+refused-requires-2 : tie.Need-refused-requires-2
+refused-requires-2 c κs = search needs
+
+returns-2 : tie.Need-returns-2
+unfolding decode need commandType commandInfo
+returns-2 c =
+    let n = c .before .before .before in
+    let i = n .before .before in
+    let w = i .before .before in
+    simp (
+      ← w .before .before .find .ensures,
+      ← w .before .find2 .ensures,
+      ← w .well-formed .ensures,
+      ← i .before .is-at .ensures,
+      ← i .is-at2 .ensures,
+      not-false (w .well-formed .result && i .before .is-at .result && i .is-at2 .result) (n .before .if1 .left),
+      ← n .number-in .ensures,
+      ← c .before .before .is-command .ensures,
+      not-true (c .before .before .is-command .result) (c .before .if2 .taken),
+    )
+    (c .refused2 .ensures)
+
+nest-in-requires : tie.Need-nest-in-requires
+nest-in-requires c κs = search needs
+
+well-formed-requires-2 : tie.Need-well-formed-requires-2
+well-formed-requires-2 c κs = search needs
+
+refused-requires-3 : tie.Need-refused-requires-3
+refused-requires-3 c κs = search needs
+
+returns-3 : tie.Need-returns-3
+unfolding decode need commandType commandInfo
+returns-3 c =
+    let x = c .before .before .before in
+    let n = x .before .before .before in
+    let i = n .before .before in
+    let w = i .before .before in
+    simp (
+      ← w .before .before .find .ensures,
+      ← w .before .find2 .ensures,
+      ← w .well-formed .ensures,
+      ← i .before .is-at .ensures,
+      ← i .is-at2 .ensures,
+      not-false (w .well-formed .result && i .before .is-at .result && i .is-at2 .result) (n .before .if1 .left),
+      ← n .number-in .ensures,
+      ← x .before .before .is-command .ensures,
+      not-false (x .before .before .is-command .result) (x .before .if2 .left),
+      ← x .nest-in .ensures,
+      ← c .before .before .well-formed2 .ensures,
+      not-true (c .before .before .well-formed2 .result) (c .before .if3 .taken),
+    )
+    (c .refused3 .ensures)
+
+command-in-requires : tie.Need-command-in-requires
+command-in-requires c κs = search needs
+
+returns-4 : tie.Need-returns-4
+unfolding decode need commandType commandInfo
+returns-4 c =
+    let x = c .before .before .before in
+    let n = x .before .before .before in
+    let i = n .before .before in
+    let w = i .before .before in
+    simp (
+      ← w .before .before .find .ensures,
+      ← w .before .find2 .ensures,
+      ← w .well-formed .ensures,
+      ← i .before .is-at .ensures,
+      ← i .is-at2 .ensures,
+      not-false (w .well-formed .result && i .before .is-at .result && i .is-at2 .result) (n .before .if1 .left),
+      ← n .number-in .ensures,
+      ← x .before .before .is-command .ensures,
+      not-false (x .before .before .is-command .result) (x .before .if2 .left),
+      ← x .nest-in .ensures,
+      ← c .before .before .well-formed2 .ensures,
+      not-false (c .before .before .well-formed2 .result) (c .before .if3 .left),
+    )
+    (c .command-in .ensures)
+
+pub decode-spec : {M : Type 1} → statement M
+decode-spec =
+    tie.close
+    (tie.spec
+    find-requires
+    find-requires-2
+    well-formed-requires
+    is-at-requires
+    is-at-requires-2
+    refused-requires
+    returns
+    number-in-requires
+    is-command-requires
+    refused-requires-2
+    returns-2
+    nest-in-requires
+    well-formed-requires-2
+    refused-requires-3
+    returns-3
+    command-in-requires
+    returns-4)

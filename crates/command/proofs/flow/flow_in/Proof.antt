@@ -1,0 +1,145 @@
+use Rattle.rules.specs.declared.Flow.{Flow}
+use Rattle.rules.specs.Decode.{need, matchOf, flowOf, matchAllowed, flowIn}
+use Rattle.rules.specs.Members.{pad}
+use Rattle.rules.specs.Fields.{value, given}
+use borrow.Author.Tests.{not-true, not-false}
+use denote.Ref.{now}
+use mathlib.Core.Bool.{_&&_}
+use mathlib.Core.Path.{_≡_, refl, ap}
+use borrow.Author.Needs.{needs}
+use Rattle.command.proofs.flow.flow_in.Statement.{statement}
+use Rattle.command.proofs.flow.flow_in.Tie as tie
+
+given-requires : tie.Need-given-requires
+given-requires c κs = search needs
+
+refused-requires : tie.Need-refused-requires
+refused-requires c κs = search needs
+
+returns : tie.Need-returns
+unfolding flowIn need
+returns c = simp (← c .before .before .given .ensures, not-true (c .before .before .given .result) (c .before .if1 .taken)) (c .refused .ensures)
+
+value-requires : tie.Need-value-requires
+value-requires c κs = search needs
+
+is-table-requires : tie.Need-is-table-requires
+is-table-requires c κs = search needs
+
+refused-requires-2 : tie.Need-refused-requires-2
+refused-requires-2 c κs = search needs
+
+returns-2 : tie.Need-returns-2
+unfolding flowIn need
+returns-2 c =
+    let t = c .before .before in
+    let g = t .before .before .before in
+    simp (
+      ← g .given .ensures,
+      not-false (g .given .result) (t .before .before .if1 .left),
+      ← t .before .value .ensures,
+      ← t .is-table .ensures,
+      not-true (t .is-table .result) (c .before .if2 .taken),
+    )
+    (c .refused2 .ensures)
+
+flow-of-requires : tie.Need-flow-of-requires
+flow-of-requires c κs = search needs
+
+given-requires-2 : tie.Need-given-requires-2
+given-requires-2 c κs = search needs
+
+flow-user-requires : tie.Need-flow-user-requires
+flow-user-requires c κs = search needs
+
+fields-right-requires : tie.Need-fields-right-requires
+fields-right-requires c κs = search needs
+
+match-allowed-requires : tie.Need-match-allowed-requires
+match-allowed-requires c κs = search needs
+
+refused-requires-3 : tie.Need-refused-requires-3
+refused-requires-3 c κs = search needs
+
+-- the test of the match is the rule's
+told : (c : tie.After-match-allowed)
+    → let f = c .before .before .before .before in
+    let v = f .before .before .before in
+    let a = v .before .before .before .before .args in
+    c .match-allowed .result ≡ matchAllowed (a .ports) (value (now (a .s)) 9) (given (now (a .s)) 19) (matchOf (now (a .s)) (v .value .result))
+unfolding flowOf
+told c =
+    let f = c .before .before .before .before in
+    let g = ap (λ (x : Flow). x .«goto_tbl») (f .flow-of .ensures) in
+    let m = ap (λ (x : Flow). x .matching) (f .flow-of .ensures) in
+    cc
+
+returns-3 : tie.Need-returns-3
+unfolding flowIn need
+returns-3 c =
+    let m = c .before .before in
+    let f = m .before .before .before .before in
+    let t = f .before .before in
+    let g = t .before .before .before in
+    simp (
+      ← g .given .ensures,
+      not-false (g .given .result) (t .before .before .if1 .left),
+      ← t .before .value .ensures,
+      ← t .is-table .ensures,
+      not-false (t .is-table .result) (f .before .if2 .left),
+      ← m .before .before .flow-user .ensures,
+      ← m .before .fields-right .ensures,
+      ← told m,
+      not-true (m .before .fields-right .result && m .match-allowed .result) (c .before .if3 .taken),
+    )
+    (c .refused3 .ensures)
+
+flow-command-requires : tie.Need-flow-command-requires
+flow-command-requires c κs = search needs
+
+carried-requires : tie.Need-carried-requires
+carried-requires c κs = search needs
+
+returns-4 : tie.Need-returns-4
+unfolding flowIn need pad
+returns-4 c =
+    let m = c .before .before .before in
+    let f = m .before .before .before .before in
+    let t = f .before .before in
+    let g = t .before .before .before in
+    simp (
+      ← g .given .ensures,
+      not-false (g .given .result) (t .before .before .if1 .left),
+      ← t .before .value .ensures,
+      ← t .is-table .ensures,
+      not-false (t .is-table .result) (f .before .if2 .left),
+      ← m .before .before .flow-user .ensures,
+      ← m .before .fields-right .ensures,
+      ← told m,
+      not-false (m .before .fields-right .result && m .match-allowed .result) (c .before .before .if3 .left),
+      ← f .flow-of .ensures,
+      ← c .before .flow-command .ensures,
+    )
+    (c .carried .ensures _ refl)
+
+pub flow-in-spec : {M : Type 1} → statement M
+flow-in-spec =
+    tie.close
+    (tie.spec
+    given-requires
+    refused-requires
+    returns
+    value-requires
+    is-table-requires
+    refused-requires-2
+    returns-2
+    flow-of-requires
+    given-requires-2
+    flow-user-requires
+    fields-right-requires
+    match-allowed-requires
+    refused-requires-3
+    returns-3
+    flow-command-requires
+    carried-requires
+    returns-4)

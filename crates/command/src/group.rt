@@ -1,0 +1,110 @@
+// Group commands in a CMD_INFO.
+ghost use mathlib.Core.Path.{_≡_};
+ghost use mathlib.Core.Bool.{false};
+ghost use Prim.Native.Nat.{_<_};
+ghost use lib.Dec.{eqb};
+ghost use Rattle.rules.specs.Choose.{choose};
+ghost use Rattle.rules.specs.Fields.{value};
+ghost use Rattle.rules.specs.GroupId.{groupType};
+ghost use Rattle.rules.specs.Members.{Collected, membersRight};
+ghost use Rattle.rules.specs.Decode.{groupOf, membersOf, groupAllowed, groupUser, groupIn, groupKeyIn};
+ghost use Rattle.rules.specs.declared.Command.the-variants.{GroupAdd, GroupMod};
+ghost use Rattle.members.specs.Listed.{listed};
+use members::Members;
+use rules::Command;
+use rules::Decoding;
+use rules::Group;
+use rules::Status;
+use tlv::fields;
+
+// The group itself, of a count that was held to its members.
+fn group_of(s: &[u8], id: u32) -> Group
+    requires { ⌜ (eqb (groupType id) 0 ≡ false → value (now s) 12 < 256) ⌝ }
+    ensures { λ r. ⌜ r ≡ groupOf (now (s .entry)) id ⌝ }
+{
+    if group_id::type_of(id) == 0 {
+        Group {
+            id: id,
+            pop_vlan: fields::value(s, fields::POP_VLAN) == 1,
+            member_count: 0,
+        }
+    } else {
+        Group {
+            id: id,
+            pop_vlan: false,
+            member_count: fields::value(s, fields::GROUP_COUNT) as u8,
+        }
+    }
+}
+
+fn members_of(s: &[u8], id: u32) -> Members
+    ensures { λ r. ⌜ r ≡ listed (value (now (s .entry)) 12) (membersOf (now (s .entry)) id) ⌝ }
+{
+    if group_id::type_of(id) == 0 {
+        return members::none();
+    }
+    let nest = tlv::nest_in(s, fields::field(s, fields::GROUP_IDS));
+    members::read(
+        nest,
+        group_id::vlan_of(id),
+        fields::value(s, fields::GROUP_COUNT),
+    )
+}
+
+// The ranges of a group's fields; `right`: its member list is right for its count.
+fn group_allowed(ports: u32, s: &[u8], id: u32, right: bool) -> bool
+    ensures { λ r. ⌜ ((c : Collected) → right ≡ membersRight (value (now (s .entry)) 12) c → r ≡ groupAllowed ports (now (s .entry)) id c) ⌝ }
+{
+    if group_id::type_of(id) != 0 {
+        return group_id::allowed(id) & right;
+    }
+    let port = fields::value(s, fields::OUT_PPORT);
+    group_id::allowed(id)
+        & ((port == group_id::low_of(id) as u64)
+            & (port <= ports as u64)
+            & (fields::value(s, fields::POP_VLAN) <= 1))
+}
+
+fn group_user(id: u32) -> u8
+    ensures { λ r. ⌜ r ≡ groupUser id ⌝ }
+{
+    if group_id::type_of(id) == 0 {
+        fields::GROUP_0
+    } else {
+        fields::GROUP_MANY
+    }
+}
+
+fn group_command(add: bool, g: Group) -> Command
+    ensures { λ r. ⌜ r ≡ choose add GroupAdd GroupMod g ⌝ }
+{
+    if add {
+        Command::GroupAdd(g)
+    } else {
+        Command::GroupMod(g)
+    }
+}
+
+// Group add and mod.
+pub fn group_in(ports: u32, s: &[u8], add: bool) -> Decoding
+    ensures { λ r. ⌜ r ≡ groupIn ports (now (s .entry)) (choose add GroupAdd GroupMod) ⌝ }
+{
+    let id = super::word(s, fields::GROUP_ID);
+    let m = members_of(s, id);
+    if !(fields::fields_right(s, group_user(id)) & group_allowed(ports, s, id, m.right)) {
+        return super::refused(Status::Einval);
+    }
+    let lows = m.lows;
+    super::carried(group_command(add, group_of(s, id)), lows)
+}
+
+// Group del.
+pub fn group_key_in(s: &[u8]) -> Decoding
+    ensures { λ r. ⌜ r ≡ groupKeyIn (now (s .entry)) ⌝ }
+{
+    let id = super::word(s, fields::GROUP_ID);
+    if !(fields::fields_right(s, fields::GROUP_DEL) & group_id::allowed(id)) {
+        return super::refused(Status::Einval);
+    }
+    super::carried(Command::GroupDel(id), [0; 62])
+}

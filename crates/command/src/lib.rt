@@ -1,0 +1,110 @@
+// A payload decoded: what it asks for, or the status of its first fault. Every function is equal to a rule of `rules`.
+ghost use mathlib.Core.Path.{_≡_};
+ghost use mathlib.Core.List.{List};
+ghost use Prim.Native.Nat.{ℕ, _≤_};
+ghost use Rattle.rules.specs.Fields.{ruleOf, value};
+ghost use Rattle.rules.specs.Members.{pad};
+ghost use Rattle.rules.specs.Decode.{refused as Decode·refused, carried as Decode·carried, isCommand, commandIn, decode as Decode·decode};
+use rules::Command;
+use rules::Decoded;
+use rules::Decoding;
+use rules::Status;
+use tlv::fields;
+
+mod flow;
+mod group;
+
+// The types of the fields of a payload.
+const CMD_TYPE: u32 = 1;
+
+const CMD_INFO: u32 = 2;
+
+// The values of CMD_TYPE.
+const FLOW_ADD: u64 = 3;
+
+const FLOW_MOD: u64 = 4;
+
+const FLOW_DEL: u64 = 5;
+
+const GROUP_ADD: u64 = 7;
+
+const GROUP_MOD: u64 = 8;
+
+const GROUP_DEL: u64 = 9;
+
+fn refused(e: Status) -> Decoding
+    ensures { λ r. ⌜ r ≡ Decode·refused e ⌝ }
+{
+    Decoding {
+        what: Decoded::Refused(e),
+        members: [0; 62],
+    }
+}
+
+// A command, with the low bits of its group's members at the front of the places.
+fn carried(command: Command, lows: [u16; 62]) -> Decoding
+    ensures { λ r. ⌜ ((l : List ℕ) → lows ≡ pad l → r ≡ Decode·carried command l) ⌝ }
+{
+    Decoding {
+        what: Decoded::Carry(command),
+        members: lows,
+    }
+}
+
+// The number of a field that has four bytes at most.
+fn word(s: &[u8], t: u32) -> u32
+    requires { ⌜ ruleOf t .width ≤ 4 ⌝ }
+    ensures { λ r. ⌜ r ≡ value (now (s .entry)) t ⌝ }
+{
+    fields::value(s, t) as u32
+}
+
+fn is_command(c: u64) -> bool
+    ensures { λ r. ⌜ r ≡ isCommand c ⌝ }
+{
+    (c == FLOW_ADD)
+        | (c == FLOW_MOD)
+        | (c == FLOW_DEL)
+        | (c == GROUP_ADD)
+        | (c == GROUP_MOD)
+        | (c == GROUP_DEL)
+}
+
+// A command in CMD_INFO, by its CMD_TYPE.
+fn command_in(ports: u32, c: u64, s: &[u8]) -> Decoding
+    ensures { λ r. ⌜ r ≡ commandIn ports c (now (s .entry)) ⌝ }
+{
+    if c == FLOW_ADD {
+        flow::flow_in(ports, s, true)
+    } else if c == FLOW_MOD {
+        flow::flow_in(ports, s, false)
+    } else if c == FLOW_DEL {
+        flow::flow_key_in(s)
+    } else if c == GROUP_ADD {
+        group::group_in(ports, s, true)
+    } else if c == GROUP_MOD {
+        group::group_in(ports, s, false)
+    } else {
+        group::group_key_in(s)
+    }
+}
+
+// A payload, on a device with so many ports.
+pub fn decode(payload: &[u8], ports: u32) -> Decoding
+    ensures { λ r. ⌜ r ≡ Decode·decode ports (now (payload .entry)) ⌝ }
+{
+    let kind = tlv::find(payload, CMD_TYPE, 2);
+    let info = tlv::find(payload, CMD_INFO, 0);
+    if !(tlv::well_formed(payload) & tlv::is_at(kind) & tlv::is_at(info)) {
+        return refused(Status::Einval);
+    }
+    let c = tlv::number_in(payload, 2, kind);
+    if !is_command(c) {
+        return refused(Status::Enotsup);
+    }
+    let nest = tlv::nest_in(payload, info);
+    if !tlv::well_formed(nest) {
+        return refused(Status::Einval);
+    }
+    command_in(ports, c, nest)
+}
