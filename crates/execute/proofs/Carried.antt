@@ -8,8 +8,11 @@ use lib.Dec.{eqb}
 use Rattle.rules.specs.Choose.{choose}
 use Rattle.rules.specs.Answers.{code}
 use Rattle.rules.specs.Keyed.{insert, replace, remove}
-use Rattle.rules.specs.Tables.{Tables, flowEntry, groupEntry, cookieOf, idOf, liveFlows, liveGroups, tablesOf, addStatus, heldStatus, commandStatus, withFlows, withGroups, commandEffect, executed}
+use Rattle.rules.specs.Tables.{Tables, flowEntry, groupEntry, cookieOf, idOf, liveFlows, liveGroups, tablesOf, addStatus, heldStatus, commandStatus, withFlows, withGroups, commandEffect, decodedStatus, decodedEffect, executed, carryOut, execute}
+use Rattle.rules.specs.Decode.{decode}
 use Rattle.rules.specs.declared.Status.{Status}
+use Rattle.rules.specs.declared.Decoded.the-variants.{Carry, Refused}
+use Rattle.rules.specs.declared.Decoding.{Decoding}
 use Rattle.rules.specs.declared.Flow.{Flow}
 use Rattle.rules.specs.declared.Group.{Group}
 use Rattle.rules.specs.declared.FlowEntry.{FlowEntry}
@@ -88,3 +91,19 @@ module _ (flows : FlowTable) (groups : GroupTable) where
     pub mod-group-effect : commandEffect (tablesOf flows groups) (GroupMod g) m ≡ withGroups (tablesOf flows groups) (replace idOf e (liveGroups groups))
     unfolding commandEffect tablesOf
     mod-group-effect = rw is
+
+-- ---- A payload
+
+module _ (ports : ℕ) (payload : List ℕ) (flows : FlowTable) (groups : GroupTable) (d : Decoding) (e : d ≡ decode ports payload) where
+  pub payload-carried : (r : Executed) (c : Command) → d .what ≡ Carry c
+      → Executes r flows groups (executed (tablesOf flows groups) (commandStatus (tablesOf flows groups) c) (commandEffect (tablesOf flows groups) c (d .members)))
+      → Executes r flows groups (execute ports payload (tablesOf flows groups))
+  unfolding execute carryOut decodedStatus decodedEffect
+  payload-carried r c w x = rw (← e, w) x
+
+  pub payload-refused : (s : Status) → d .what ≡ Refused s
+      → Executes (record { status = s; flows = flows; groups = groups }) flows groups (execute ports payload (tablesOf flows groups))
+  unfolding execute carryOut decodedStatus decodedEffect executed
+  payload-refused s w =
+      rw (← e, w)
+      (record { status-is = refl; tables-are = by-test (eqb (code s) 0) (λ p. rw p) (λ p. rw p); flows-kept = λ n. refl; groups-kept = λ n. refl })

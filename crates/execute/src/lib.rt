@@ -1,5 +1,6 @@
 // A payload carried out on the tables: its status, and the tables after it.
 use rules::Command;
+use rules::Decoded;
 use rules::Flow;
 use rules::FlowEntry;
 use rules::FlowTable;
@@ -11,7 +12,7 @@ use rules::Status;
 use tables::FlowChange;
 use tables::GroupChange;
 ghost use mathlib.Core.Path.{_≡_};
-ghost use Rattle.rules.specs.Tables.{tablesOf, flowEntry, groupEntry, commandStatus, commandEffect, executed};
+ghost use Rattle.rules.specs.Tables.{tablesOf, flowEntry, groupEntry, commandStatus, commandEffect, executed, execute as Tables·execute};
 ghost use Rattle.execute.specs.Outcome.{Executes};
 ghost use Rattle.execute.specs.Entries.{commonEntry};
 
@@ -140,5 +141,22 @@ pub fn carry_out(c: Command, members: [u16; 62], flows: FlowTable, groups: Group
             tables::group_mod(groups, group_entry(g, members)),
         ),
         Command::GroupDel(id) => with_groups(flows, tables::group_del(groups, id)),
+    }
+}
+
+// A payload carried out: decoded, and then its command; or the status of its first fault, with the tables as they were.
+pub fn execute(payload: &[u8], ports: u32, flows: FlowTable, groups: GroupTable) -> Executed
+    ensures { λ r. ⌜ Executes r flows groups (Tables·execute ports (now (payload .entry)) (tablesOf flows groups)) ⌝ }
+{
+    let d = command::decode(payload, ports);
+    let members = d.members;
+    let what = d.what;
+    match what {
+        Decoded::Carry(c) => carry_out(c, members, flows, groups),
+        Decoded::Refused(status) => Executed {
+            status: status,
+            flows: flows,
+            groups: groups,
+        },
     }
 }
