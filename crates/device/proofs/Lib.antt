@@ -1,2 +1,4 @@
 pub mod Outcome
 pub mod Fetching
+pub mod Completion
+pub mod Processing

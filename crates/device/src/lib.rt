@@ -6,12 +6,15 @@ mod slot;
 use rules::Answer;
 use rules::Device;
 use rules::Registers;
+use slot::Slot;
 ghost use mathlib.Core.Path.{_≡_};
 ghost use mathlib.Core.List.{List};
-ghost use Prim.Native.Nat.{ℕ};
+ghost use Prim.Native.Nat.{ℕ, _+_, _≤_, _<_};
+ghost use lib.ListN.{length};
 ghost use Rattle.rules.specs.Tables.{tablesOf, emptyTables};
 ghost use Rattle.rules.specs.Switch.{Borrowed, switchOf, step};
 ghost use Rattle.rules.specs.declared.Request.the-variants.{Read, Write, Link, Process, Frame, Header};
+ghost use Rattle.device.specs.Completion.{Completes};
 ghost use Rattle.device.specs.Outcome.{Outcome, Makes, borrowed, quiet};
 
 // What a call gives: the answer; the value that a read gives; whether vector 0 was raised; the completion that process wrote, 0 for
@@ -144,4 +147,64 @@ pub fn header(d: Device, buffer: &mut [u8]) -> Called
     let mut r = answered(d, Answer::Done);
     r.length = n;
     r
+}
+
+// A slot that may be completed: carried out and recorded, its two status bytes written, TAIL and CREDITS moved on.
+fn complete(d: Device, memory: &mut [u8], buffer: &mut [u8], at: usize, s: Slot) -> Called
+    requires { ⌜ (at + 32 ≤ length (now memory)) × (s .start + s .size ≤ length (now memory)) × (6 + s .size ≤ length (now buffer)) × (d .registers .ring .credits < 65536) ⌝ }
+    ensures { λ r. ⌜ Completes r d s at (now (memory .entry)) (now (memory .exit)) (now (buffer .entry)) (now (buffer .exit)) ⌝ }
+{
+    let regs = d.registers;
+    let ring = regs.ring;
+    let flows = d.flows;
+    let groups = d.groups;
+    let x = slot::carry_and_record(memory, buffer, s, regs, flows, groups);
+    let status = x.status;
+    let completed = journal::writer::completion(status);
+    wire::put16(memory, at + 30, completed);
+    let mut after = regs;
+    let next = registers::complete(ring);
+    after.ring = next;
+    let flows = x.flows;
+    let groups = x.groups;
+    Called {
+        answer: Answer::Done,
+        value: 0,
+        interrupt: registers::complete_interrupt(ring),
+        completed: completed,
+        length: 6 + s.size,
+        outputs: 0,
+        device: Device {
+            registers: after,
+            flows: flows,
+            groups: groups,
+        },
+    }
+}
+
+// Process one slot (document 01: the work call): consume the descriptor at TAIL, or say why not.
+pub fn process(d: Device, memory: &mut [u8], buffer: &mut [u8]) -> Called
+    ensures { λ r. ⌜ ((frame list : List ℕ) → Outcome r d (now (memory .exit)) (now (buffer .exit)) list (step (switchOf d) (borrowed (now (memory .entry)) frame (now (buffer .entry)) list) Process)) ⌝ }
+{
+    let regs = d.registers;
+    let ring = regs.ring;
+    if ring.head == ring.tail {
+        return answered(d, Answer::RingEmpty);
+    }
+    if 65536 <= ring.credits {
+        return answered(d, Answer::CreditsFull);
+    }
+    if !slot::descriptor_inside(memory, ring) {
+        return answered(d, Answer::DescriptorOutside);
+    }
+    let at = slot::descriptor_at(memory, ring);
+    let descriptor = slot::descriptor(memory, at);
+    let s = slot::fetch(memory, descriptor);
+    if buffer.len() < 6 {
+        return answered(d, Answer::BufferShort);
+    }
+    if buffer.len() - 6 < s.size {
+        return answered(d, Answer::BufferShort);
+    }
+    complete(d, memory, buffer, at, s)
 }

@@ -1,0 +1,75 @@
+-- A slot completed, on plain values.
+-- Assumes nothing.
+use Prim.Native.Nat.{ℕ, _+_, _≤_}
+use mathlib.Core.Bool.{Bool, true}
+use mathlib.Core.Path.{_≡_, refl, sym, ap, _∙_}
+use mathlib.Core.List.{List}
+use native.Mathlib.Omega.{arith}
+use lib.ListN.{length}
+use borrow.Author.Tests.{le-leb}
+use Rattle.rules.specs.Choose.{choose}
+use Rattle.rules.specs.Bytes.{inside, bytesOf, splice}
+use Rattle.rules.specs.Ring.{completeEffect, completeInterrupt}
+use Rattle.rules.specs.Registers.{withRing}
+use Rattle.rules.specs.Journal.{completion}
+use Rattle.rules.specs.declared.Answer.the-variants.{Done}
+use Rattle.rules.specs.declared.Device.{Device}
+use Rattle.rules.specs.declared.Ring.{Ring}
+use Rattle.wire.specs.Put.{put}
+use Rattle.execute.specs.declared.Executed.{Executed}
+use Rattle.device.specs.Fetching.{Carries, Recorded}
+use Rattle.device.specs.Completion.{Completes}
+use Rattle.device.specs.declared.Called.{Called}
+use Rattle.device.specs.declared.slot.Slot.{Slot}
+
+-- a number that fits is put
+put-inside : (at n v : ℕ) (s : List ℕ) → at + n ≤ length s → put at n v s ≡ splice at (bytesOf n v) s
+unfolding put inside
+put-inside at n v s h = rw (le-leb _ _ h)
+
+-- the result of completing a slot
+unfoldable pub result : Device → Executed → Slot → ℕ → Bool → Ring → Called
+result d x s completed raised next =
+    record {
+      answer = Done;
+      value = 0;
+      interrupt = raised;
+      completed = completed;
+      length = 6 + s .size;
+      outputs = 0;
+      device = record {
+        registers = record {
+          «switch_id» = d .registers .«switch_id»;
+          links = d .registers .links;
+          enable = d .registers .enable;
+          «test_reg64» = d .registers .«test_reg64»;
+          ports = d .registers .ports;
+          «enable_latch» = d .registers .«enable_latch»;
+          «test_latch» = d .registers .«test_latch»;
+          «test_reg» = d .registers .«test_reg»;
+          ring = next;
+        };
+        flows = x .flows;
+        groups = x .groups;
+      };
+    }
+
+pub completes : (d : Device) (x : Executed) (s : Slot) (at completed : ℕ) (raised : Bool) (next : Ring) (memory memory′ buffer buffer′ : List ℕ)
+    → at + 32 ≤ length memory → Recorded x s (d .registers) (d .flows) (d .groups) memory buffer buffer′ → completed ≡ completion (x .status)
+    → memory′ ≡ put (at + 30) 2 completed memory → raised ≡ completeInterrupt (d .registers .ring) → next ≡ completeEffect (d .registers .ring)
+    → Completes (result d x s completed raised next) d s at memory memory′ buffer buffer′
+unfolding result withRing
+completes d x s at completed raised next memory memory′ buffer buffer′ h r c m i n =
+    let k : completed ≡ completion _ = c ∙ ap completion (r .carries .status-is) in
+    record {
+      answer-is = refl;
+      value-is = refl;
+      interrupt-is = i;
+      completed-is = k;
+      length-is = refl;
+      outputs-are = refl;
+      registers-are = rw n;
+      tables-are = r .carries .tables-are;
+      memory-is = m ∙ (put-inside (at + 30) 2 completed memory (omega arith) ∙ rw k);
+      buffer-is = r .buffer-is ∙ rw (r .carries .status-is);
+    }
