@@ -1,3 +1,9 @@
+use Rattle.rules.specs.declared.Command.the-variants.{GroupAdd, GroupMod}
+use Rattle.rules.specs.Decode.{groupIn, groupKeyIn, commandIn}
+use Rattle.rules.specs.Choose.{choose}
+use lib.Dec.{eqb}
+use denote.Ref.{now}
+use mathlib.Core.Path.{_≡_}
 use Rattle.rules.specs.Decode.{commandIn}
 use borrow.Author.Tests.{eq-eqb, ne-eqb}
 use borrow.Author.Needs.{needs}
@@ -40,42 +46,27 @@ returns-3 c =
     )
     (c .flow-key-in .ensures)
 
-returns-4 : tie.Need-returns-4
+-- what decides past the flow commands
+past-flows : (c : tie.Else3)
+    → let a = c .before .before .before .before .args in
+    let s = now (a .s) in
+    commandIn (a .ports) (a .c) s
+    ≡ choose (eqb (a .c) 7) (groupIn (a .ports) s GroupAdd) (choose (eqb (a .c) 8) (groupIn (a .ports) s GroupMod) (groupKeyIn s))
 unfolding commandIn
-returns-4 c =
-    simp (
-      ne-eqb _ _ (c .before .before .before .before .if1 .left),
-      ne-eqb _ _ (c .before .before .before .if2 .left),
-      ne-eqb _ _ (c .before .before .if3 .left),
-      eq-eqb _ _ (c .before .if4 .taken),
-    )
-    (c .group-in .ensures)
+past-flows c = simp (ne-eqb _ _ (c .before .before .if1 .left), ne-eqb _ _ (c .before .if2 .left), ne-eqb _ _ (c .if3 .left))
+
+returns-4 : tie.Need-returns-4
+returns-4 c = rw (past-flows (c .before .before)) (simp (eq-eqb _ _ (c .before .if4 .taken)) (c .group-in .ensures))
 
 returns-5 : tie.Need-returns-5
-unfolding commandIn
 returns-5 c =
     let e = c .before .before in
-    simp (
-      ne-eqb _ _ (e .before .before .before .if1 .left),
-      ne-eqb _ _ (e .before .before .if2 .left),
-      ne-eqb _ _ (e .before .if3 .left),
-      ne-eqb _ _ (e .if4 .left),
-      eq-eqb _ _ (c .before .if5 .taken),
-    )
-    (c .group-in2 .ensures)
+    rw (past-flows (e .before)) (simp (ne-eqb _ _ (e .if4 .left), eq-eqb _ _ (c .before .if5 .taken)) (c .group-in2 .ensures))
 
 returns-6 : tie.Need-returns-6
-unfolding commandIn
 returns-6 c =
     let e = c .before .before in
-    simp (
-      ne-eqb _ _ (e .before .before .before .if1 .left),
-      ne-eqb _ _ (e .before .before .if2 .left),
-      ne-eqb _ _ (e .before .if3 .left),
-      ne-eqb _ _ (e .if4 .left),
-      ne-eqb _ _ (c .before .if5 .left),
-    )
-    (c .group-key-in .ensures)
+    rw (past-flows (e .before)) (simp (ne-eqb _ _ (e .if4 .left), ne-eqb _ _ (c .before .if5 .left)) (c .group-key-in .ensures))
 
 pub command-in-spec : {M : Type 1} → statement M
 command-in-spec =

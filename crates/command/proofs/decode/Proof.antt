@@ -1,3 +1,9 @@
+use Rattle.rules.specs.declared.Status.the-variants.{Einval, Enotsup}
+use Rattle.rules.specs.Decode.{need, isCommand, commandType, commandInfo, commandIn, decode}
+use Rattle.rules.specs.Fields.{numberIn, nestIn}
+use Rattle.rules.specs.Region.{wellFormed}
+use denote.Ref.{now}
+use mathlib.Core.Path.{_≡_}
 use Rattle.rules.specs.Decode.{need, commandType, commandInfo, decode}
 use borrow.Author.Tests.{not-true, not-false}
 use mathlib.Core.Bool.{_&&_}
@@ -38,6 +44,27 @@ returns c =
     )
     (c .refused .ensures)
 
+-- what decides past the top faults
+past-top : (c : tie.Else1)
+    → let f = c .before .before .before .before in
+    let a = f .before .before .before .args in
+    let s = now (a .payload) in
+    decode (a .ports) s
+    ≡ need (isCommand (numberIn s 2 (f .before .find .result))) Enotsup
+    (need (wellFormed (nestIn s (f .find2 .result))) Einval (commandIn (a .ports) (numberIn s 2 (f .before .find .result)) (nestIn s (f .find2 .result))))
+unfolding decode need commandType commandInfo
+past-top c =
+    let i = c .before in
+    let w = i .before .before in
+    simp (
+      ← w .before .before .find .ensures,
+      ← w .before .find2 .ensures,
+      ← w .well-formed .ensures,
+      ← i .before .is-at .ensures,
+      ← i .is-at2 .ensures,
+      not-false (w .well-formed .result && i .before .is-at .result && i .is-at2 .result) (c .if1 .left),
+    )
+
 number-in-requires : tie.Need-number-in-requires
 number-in-requires c κs = search needs
 
@@ -48,23 +75,24 @@ refused-requires-2 : tie.Need-refused-requires-2
 refused-requires-2 c κs = search needs
 
 returns-2 : tie.Need-returns-2
-unfolding decode need commandType commandInfo
+unfolding need
 returns-2 c =
-    let n = c .before .before .before in
-    let i = n .before .before in
-    let w = i .before .before in
-    simp (
-      ← w .before .before .find .ensures,
-      ← w .before .find2 .ensures,
-      ← w .well-formed .ensures,
-      ← i .before .is-at .ensures,
-      ← i .is-at2 .ensures,
-      not-false (w .well-formed .result && i .before .is-at .result && i .is-at2 .result) (n .before .if1 .left),
-      ← n .number-in .ensures,
-      ← c .before .before .is-command .ensures,
-      not-true (c .before .before .is-command .result) (c .before .if2 .taken),
-    )
-    (c .refused2 .ensures)
+    let k = c .before .before in
+    rw (past-top (k .before .before))
+    (simp (← k .before .number-in .ensures, ← k .is-command .ensures, not-true (k .is-command .result) (c .before .if2 .taken)) (c .refused2 .ensures))
+
+-- what decides past an unknown CMD_TYPE
+past-type : (c : tie.Else2)
+    → let n = c .before .before in
+    let f = n .before .before .before .before .before in
+    let a = f .before .before .before .args in
+    let s = now (a .payload) in
+    decode (a .ports) s ≡ need (wellFormed (nestIn s (f .find2 .result))) Einval (commandIn (a .ports) (n .number-in .result) (nestIn s (f .find2 .result)))
+unfolding need
+past-type c =
+    let k = c .before in
+    rw (past-top (k .before .before))
+    (simp (← k .before .number-in .ensures, ← k .is-command .ensures, not-false (k .is-command .result) (c .if2 .left)))
 
 nest-in-requires : tie.Need-nest-in-requires
 nest-in-requires c κs = search needs
@@ -76,53 +104,21 @@ refused-requires-3 : tie.Need-refused-requires-3
 refused-requires-3 c κs = search needs
 
 returns-3 : tie.Need-returns-3
-unfolding decode need commandType commandInfo
+unfolding need
 returns-3 c =
-    let x = c .before .before .before in
-    let n = x .before .before .before in
-    let i = n .before .before in
-    let w = i .before .before in
-    simp (
-      ← w .before .before .find .ensures,
-      ← w .before .find2 .ensures,
-      ← w .well-formed .ensures,
-      ← i .before .is-at .ensures,
-      ← i .is-at2 .ensures,
-      not-false (w .well-formed .result && i .before .is-at .result && i .is-at2 .result) (n .before .if1 .left),
-      ← n .number-in .ensures,
-      ← x .before .before .is-command .ensures,
-      not-false (x .before .before .is-command .result) (x .before .if2 .left),
-      ← x .nest-in .ensures,
-      ← c .before .before .well-formed2 .ensures,
-      not-true (c .before .before .well-formed2 .result) (c .before .if3 .taken),
-    )
-    (c .refused3 .ensures)
+    let w = c .before .before in
+    rw (past-type (w .before .before))
+    (simp (← w .before .nest-in .ensures, ← w .well-formed2 .ensures, not-true (w .well-formed2 .result) (c .before .if3 .taken)) (c .refused3 .ensures))
 
 command-in-requires : tie.Need-command-in-requires
 command-in-requires c κs = search needs
 
 returns-4 : tie.Need-returns-4
-unfolding decode need commandType commandInfo
+unfolding need
 returns-4 c =
-    let x = c .before .before .before in
-    let n = x .before .before .before in
-    let i = n .before .before in
-    let w = i .before .before in
-    simp (
-      ← w .before .before .find .ensures,
-      ← w .before .find2 .ensures,
-      ← w .well-formed .ensures,
-      ← i .before .is-at .ensures,
-      ← i .is-at2 .ensures,
-      not-false (w .well-formed .result && i .before .is-at .result && i .is-at2 .result) (n .before .if1 .left),
-      ← n .number-in .ensures,
-      ← x .before .before .is-command .ensures,
-      not-false (x .before .before .is-command .result) (x .before .if2 .left),
-      ← x .nest-in .ensures,
-      ← c .before .before .well-formed2 .ensures,
-      not-false (c .before .before .well-formed2 .result) (c .before .if3 .left),
-    )
-    (c .command-in .ensures)
+    let w = c .before .before in
+    rw (past-type (w .before .before))
+    (simp (← w .before .nest-in .ensures, ← w .well-formed2 .ensures, not-false (w .well-formed2 .result) (c .before .if3 .left)) (c .command-in .ensures))
 
 pub decode-spec : {M : Type 1} → statement M
 decode-spec =

@@ -1,3 +1,9 @@
+use Rattle.rules.specs.declared.Command.the-variants.{FlowAdd, FlowMod}
+use Rattle.rules.specs.declared.Status.the-variants.{Einval}
+use mathlib.Core.List.{[]}
+use Rattle.rules.specs.Decode.{need, carried, matchOf, flowOf, flowUser, matchAllowed, flowIn}
+use Rattle.rules.specs.Fields.{fieldsRight, value, given}
+use Rattle.rules.specs.Choose.{choose}
 use Rattle.rules.specs.declared.Flow.{Flow}
 use Rattle.rules.specs.Decode.{need, matchOf, flowOf, matchAllowed, flowIn}
 use Rattle.rules.specs.Members.{pad}
@@ -43,6 +49,27 @@ returns-2 c =
     )
     (c .refused2 .ensures)
 
+-- what decides past the faults of TBL
+past-table : (c : tie.Else2)
+    → let v = c .before .before in
+    let a = v .before .before .before .before .args in
+    let s = now (a .s) in
+    let t = v .value .result in
+    flowIn (a .ports) s (choose (a .add) FlowAdd FlowMod)
+    ≡ need (fieldsRight s (flowUser t) && matchAllowed (a .ports) (value s 9) (given s 19) (matchOf s t)) Einval
+    (carried (choose (a .add) FlowAdd FlowMod (flowOf s t)) [])
+unfolding flowIn need
+past-table c =
+    let t = c .before in
+    let g = t .before .before .before in
+    simp (
+      ← g .given .ensures,
+      not-false (g .given .result) (t .before .before .if1 .left),
+      ← t .before .value .ensures,
+      ← t .is-table .ensures,
+      not-false (t .is-table .result) (c .if2 .left),
+    )
+
 flow-of-requires : tie.Need-flow-of-requires
 flow-of-requires c κs = search needs
 
@@ -75,24 +102,17 @@ told c =
     cc
 
 returns-3 : tie.Need-returns-3
-unfolding flowIn need
+unfolding need
 returns-3 c =
     let m = c .before .before in
-    let f = m .before .before .before .before in
-    let t = f .before .before in
-    let g = t .before .before .before in
-    simp (
-      ← g .given .ensures,
-      not-false (g .given .result) (t .before .before .if1 .left),
-      ← t .before .value .ensures,
-      ← t .is-table .ensures,
-      not-false (t .is-table .result) (f .before .if2 .left),
+    rw (past-table (m .before .before .before .before .before))
+    (simp (
       ← m .before .before .flow-user .ensures,
       ← m .before .fields-right .ensures,
       ← told m,
       not-true (m .before .fields-right .result && m .match-allowed .result) (c .before .if3 .taken),
     )
-    (c .refused3 .ensures)
+    (c .refused3 .ensures))
 
 flow-command-requires : tie.Need-flow-command-requires
 flow-command-requires c κs = search needs
@@ -101,18 +121,12 @@ carried-requires : tie.Need-carried-requires
 carried-requires c κs = search needs
 
 returns-4 : tie.Need-returns-4
-unfolding flowIn need pad
+unfolding need pad
 returns-4 c =
     let m = c .before .before .before in
     let f = m .before .before .before .before in
-    let t = f .before .before in
-    let g = t .before .before .before in
-    simp (
-      ← g .given .ensures,
-      not-false (g .given .result) (t .before .before .if1 .left),
-      ← t .before .value .ensures,
-      ← t .is-table .ensures,
-      not-false (t .is-table .result) (f .before .if2 .left),
+    rw (past-table (f .before))
+    (simp (
       ← m .before .before .flow-user .ensures,
       ← m .before .fields-right .ensures,
       ← told m,
@@ -120,7 +134,7 @@ returns-4 c =
       ← f .flow-of .ensures,
       ← c .before .flow-command .ensures,
     )
-    (c .carried .ensures _ refl)
+    (c .carried .ensures _ refl))
 
 pub flow-in-spec : {M : Type 1} → statement M
 flow-in-spec =
