@@ -45,6 +45,29 @@ pub struct Changed {
     pub registers: Registers,
 }
 
+// The number of an answer.
+pub fn answer_number(a: Answer) -> u64
+    ensures { λ r. ⌜ r ≡ number a ⌝ }
+{
+    match a {
+        Answer::Done => 0,
+        Answer::AccessNotAllowed => 1,
+        Answer::ValueNotAllowed => 2,
+        Answer::RingEmpty => 3,
+        Answer::CreditsFull => 4,
+        Answer::DescriptorOutside => 5,
+        Answer::BufferShort => 6,
+        Answer::PortNotAllowed => 7,
+        Answer::NotAFrame => 8,
+        Answer::ListShort => 9,
+        Answer::CutShort => 10,
+        Answer::BadMark => 11,
+        Answer::BadVersion => 12,
+        Answer::BadPortCount => 13,
+        Answer::RecordDisagrees => 14,
+    }
+}
+
 // ---- Fresh and reset
 
 fn fresh_registers(ports: u32, switch_id: u64) -> Registers

@@ -137,7 +137,8 @@ fn head_allowed(r: Ring, new: u32) -> bool
     ensures { λ b. ⌜ b ≡ headAllowed r new ⌝ }
 {
     if new < r.size {
-        return outstanding(r) + advance(r, new) <= r.size as u64 - 1;
+        let after = outstanding(r) + advance(r, new);
+        return after <= r.size as u64 - 1;
     }
     false
 }

@@ -12,8 +12,8 @@ outstanding-requires c κs = search needs
 advance-requires : tie.Need-advance-requires
 advance-requires c κs = search needs
 
-add-result : tie.Need-add-result
-add-result c =
+add-after : tie.Need-add-after
+add-after c =
     let r = c .before .before .before .before .args .r in
     omega (arith, outstanding-below r (omega arith), advance-below r (c .before .before .before .before .args .new) (omega arith), c .before .outstanding .ensures, c .advance .ensures)
 
@@ -37,7 +37,7 @@ head-allowed-spec =
     (tie.spec
     outstanding-requires
     advance-requires
-    add-result
+    add-after
     cast-result
     sub-result
     returns
