@@ -1,0 +1,5 @@
+pub mod Tests
+pub mod Reach
+pub mod Outcomes
+pub mod Bitmaps
+pub mod Sizes

@@ -1,0 +1,331 @@
+// The register file: fresh registers, reads and writes, and the owner's setting of a link. Whatever the registers hold, each call
+// gives exactly what the rules say. What a write does to the tables it only reports.
+mod access;
+mod ports;
+mod ring;
+
+pub use ports::is_up;
+pub use ports::port_allowed;
+pub use ports::port_count_allowed;
+use ring::RingWritten;
+pub use ring::complete;
+pub use ring::complete_interrupt;
+use rules::Access;
+use rules::Answer;
+use rules::Register;
+use rules::Registers;
+use rules::Ring;
+ghost use mathlib.Core.Path.{_≡_};
+ghost use mathlib.Core.Bool.{Bool, true, false};
+ghost use Prim.Native.Nat.{_<_, _^_};
+ghost use Rattle.rules.specs.Answers.{number};
+ghost use Rattle.rules.specs.Ring.{zeroRing};
+ghost use Rattle.rules.specs.Registers.{isWide, valueOf, readValue, latchOf, latchEffect, taken as Registers·taken, unlessRefused, store as Registers·store, writeTo, write as Registers·write, freshRegisters, withLinks, withTest, withTest64, withEnable, withRing, linkEffect, resetRegisters};
+ghost use Rattle.rules.specs.Switch.{freshRefusal, linkRefusal};
+ghost use Rattle.registers.specs.Outcomes.{Reads, Gives, Changes, inRing, done as Outcomes·done};
+ghost use Rattle.registers.specs.Shapes.{Bounded};
+
+// What a register read gives.
+pub struct Reading {
+    pub answer: Answer,
+    pub value: u64,
+}
+
+// What a register write gives. `resets`: the device is reset, so its tables are to be emptied.
+pub struct Written {
+    pub answer: Answer,
+    pub registers: Registers,
+    pub interrupt: bool,
+    pub resets: bool,
+}
+
+// What fresh and link give.
+pub struct Changed {
+    pub answer: Answer,
+    pub registers: Registers,
+}
+
+// ---- Fresh and reset
+
+fn fresh_registers(ports: u32, switch_id: u64) -> Registers
+    ensures { λ r. ⌜ r ≡ freshRegisters ports «switch_id» ⌝ }
+{
+    let ring = ring::zero();
+    Registers {
+        switch_id: switch_id,
+        links: 0,
+        enable: 0,
+        test_reg64: 0,
+        ports: ports,
+        enable_latch: 0,
+        test_latch: 0,
+        test_reg: 0,
+        ring: ring,
+    }
+}
+
+// Refused, all is zero.
+pub fn fresh(ports: u64, switch_id: u64) -> Changed
+    ensures { λ r. ⌜ Changes r (freshRefusal ports) (freshRegisters ports «switch_id») (freshRegisters 0 0) ⌝ }
+{
+    if !port_count_allowed(ports) {
+        return Changed {
+            answer: Answer::PortNotAllowed,
+            registers: fresh_registers(0, 0),
+        };
+    }
+    Changed {
+        answer: Answer::Done,
+        registers: fresh_registers(ports as u32, switch_id),
+    }
+}
+
+fn reset(d: Registers) -> Registers
+    ensures { λ r. ⌜ r ≡ resetRegisters d ⌝ }
+{
+    let mut next = fresh_registers(d.ports, d.switch_id);
+    next.links = d.links;
+    next
+}
+
+// ---- Link
+
+pub fn link(d: Registers, port: u64, up: bool) -> Changed
+    ensures { λ r. ⌜ Changes r (linkRefusal d port) (withLinks d (linkEffect (d .links) port up)) d ⌝ }
+{
+    if !port_allowed(d, port) {
+        return Changed {
+            answer: Answer::PortNotAllowed,
+            registers: d,
+        };
+    }
+    let mut next = d;
+    next.links = ports::links_after(d.links, port, up);
+    Changed {
+        answer: Answer::Done,
+        registers: next,
+    }
+}
+
+// ---- Read
+
+fn value_of(d: Registers, register: Register) -> u64
+    ensures { λ r. ⌜ r ≡ valueOf d register ⌝ }
+{
+    match register {
+        Register::Magic => 0xDEADBABEDEADBABE,
+        Register::TestReg => std::num::wrapping_add_u32(d.test_reg, d.test_reg) as u64,
+        Register::TestReg64 => std::num::wrapping_add_u64(d.test_reg64, d.test_reg64),
+        Register::Control => 0,
+        Register::PortPhysCount => d.ports as u64,
+        Register::PortPhysLinkStatus => d.links,
+        Register::PortPhysEnable => d.enable,
+        Register::SwitchId => d.switch_id,
+        Register::BaseAddr => d.ring.base_addr,
+        Register::Size => d.ring.size as u64,
+        Register::Head => d.ring.head as u64,
+        Register::Tail => d.ring.tail as u64,
+        Register::Ctrl => 0,
+        Register::Credits => d.ring.credits as u64,
+    }
+}
+
+fn read_value(d: Registers, a: Access) -> u64
+    ensures { λ r. ⌜ r ≡ readValue d a ⌝ }
+{
+    match a {
+        Access::NotAllowed => 0,
+        Access::Reserved => 0,
+        Access::Whole(r) => value_of(d, r),
+        Access::Lower(r) => value_of(d, r) % 0x1_0000_0000,
+        Access::Upper(r) => value_of(d, r) / 0x1_0000_0000,
+    }
+}
+
+pub fn read(d: Registers, offset: u64, width: u64) -> Reading
+    ensures { λ r. ⌜ Reads r d offset width ⌝ }
+{
+    let a = access::access(offset, width);
+    Reading {
+        answer: access::answer_of(a),
+        value: read_value(d, a),
+    }
+}
+
+// ---- Write
+
+fn done(d: Registers) -> Written
+    ensures { λ w. ⌜ w ≡ Outcomes·done d ⌝ }
+{
+    Written {
+        answer: Answer::Done,
+        registers: d,
+        interrupt: false,
+        resets: false,
+    }
+}
+
+// What a write makes of a ring, as what it makes of the registers.
+fn in_ring(d: Registers, w: RingWritten) -> Written
+    ensures { λ r. ⌜ r ≡ inRing d w ⌝ }
+{
+    let mut next = d;
+    let ring = w.ring;
+    next.ring = ring;
+    let answer = w.answer;
+    Written {
+        answer: answer,
+        registers: next,
+        interrupt: w.interrupt,
+        resets: false,
+    }
+}
+
+// Registers with some of them set anew.
+fn with_test(d: Registers, v: u32) -> Registers
+    ensures { λ n. ⌜ n ≡ withTest d v ⌝ }
+{
+    let mut next = d;
+    next.test_reg = v;
+    next
+}
+
+fn with_test64(d: Registers, v: u64, latch: u32) -> Registers
+    ensures { λ n. ⌜ n ≡ withTest64 d v latch ⌝ }
+{
+    let mut next = d;
+    next.test_reg64 = v;
+    next.test_latch = latch;
+    next
+}
+
+fn with_enable(d: Registers, v: u64, latch: u32) -> Registers
+    ensures { λ n. ⌜ n ≡ withEnable d v latch ⌝ }
+{
+    let mut next = d;
+    next.enable = v;
+    next.enable_latch = latch;
+    next
+}
+
+fn with_ring(d: Registers, r: Ring) -> Registers
+    ensures { λ n. ⌜ n ≡ withRing d r ⌝ }
+{
+    let mut next = d;
+    next.ring = r;
+    next
+}
+
+// CONTROL: bit 0 resets the device.
+fn store_control(d: Registers, v: u64) -> Written
+    ensures { λ w. ⌜ Gives w (unlessRefused d (Registers·store d Register.Control v)) ⌝ }
+{
+    if v % 2 == 1 {
+        return Written {
+            answer: Answer::Done,
+            registers: reset(d),
+            interrupt: false,
+            resets: true,
+        };
+    }
+    done(d)
+}
+
+// A write of a whole register. One of 4 bytes takes a number of 32 bits.
+fn store(d: Registers, register: Register, v: u64) -> Written
+    requires { ⌜ (isWide register ≡ false → v < 2 ^ 32) ⌝ }
+    ensures { λ w. ⌜ Gives w (unlessRefused d (Registers·store d register v)) ⌝ }
+{
+    let ring = d.ring;
+    match register {
+        Register::Magic => done(d),
+        Register::TestReg => done(with_test(d, v as u32)),
+        Register::TestReg64 => done(with_test64(d, v, 0)),
+        Register::Control => store_control(d, v),
+        Register::PortPhysCount => done(d),
+        Register::PortPhysLinkStatus => done(d),
+        Register::PortPhysEnable => done(with_enable(d, ports::port_bits(d.ports, v), 0)),
+        Register::SwitchId => done(d),
+        Register::BaseAddr => in_ring(d, ring::write_base(ring, v)),
+        Register::Size => in_ring(d, ring::write_size(ring, v as u32)),
+        Register::Head => in_ring(d, ring::write_head(ring, v as u32)),
+        Register::Tail => done(d),
+        Register::Ctrl => done(with_ring(d, ring::write_ctrl(ring, v))),
+        Register::Credits => in_ring(d, ring::write_credits(ring, v as u32)),
+    }
+}
+
+// Each writable register of 8 bytes has a latch of its own.
+fn latch_of(d: Registers, register: Register) -> u32
+    ensures { λ r. ⌜ r ≡ latchOf d register ⌝ }
+{
+    match register {
+        Register::Magic => 0,
+        Register::TestReg => 0,
+        Register::TestReg64 => d.test_latch,
+        Register::Control => 0,
+        Register::PortPhysCount => 0,
+        Register::PortPhysLinkStatus => 0,
+        Register::PortPhysEnable => d.enable_latch,
+        Register::SwitchId => 0,
+        Register::BaseAddr => d.ring.base_latch,
+        Register::Size => 0,
+        Register::Head => 0,
+        Register::Tail => 0,
+        Register::Ctrl => 0,
+        Register::Credits => 0,
+    }
+}
+
+fn latch(d: Registers, register: Register, v: u32) -> Registers
+    ensures { λ n. ⌜ n ≡ latchEffect d register v ⌝ }
+{
+    let ring = d.ring;
+    match register {
+        Register::Magic => d,
+        Register::TestReg => d,
+        Register::TestReg64 => with_test64(d, d.test_reg64, v),
+        Register::Control => d,
+        Register::PortPhysCount => d,
+        Register::PortPhysLinkStatus => d,
+        Register::PortPhysEnable => with_enable(d, d.enable, v),
+        Register::SwitchId => d,
+        Register::BaseAddr => with_ring(d, ring::latch_base(ring, v)),
+        Register::Size => d,
+        Register::Head => d,
+        Register::Tail => d,
+        Register::Ctrl => d,
+        Register::Credits => d,
+    }
+}
+
+fn taken(width: u64, v: u64) -> u64
+    ensures { λ r. ⌜ r ≡ Registers·taken width v ⌝ }
+{
+    if width == 4 { v % 0x1_0000_0000 } else { v }
+}
+
+// A write of a taken number to what it reaches.
+fn write_to(d: Registers, a: Access, v: u64) -> Written
+    requires { ⌜ Bounded a v ⌝ }
+    ensures { λ w. ⌜ Gives w (unlessRefused d (writeTo d a v)) ⌝ }
+{
+    match a {
+        Access::NotAllowed => Written {
+            answer: Answer::AccessNotAllowed,
+            registers: d,
+            interrupt: false,
+            resets: false,
+        },
+        Access::Reserved => done(d),
+        Access::Whole(r) => store(d, r, v),
+        Access::Lower(r) => done(latch(d, r, v as u32)),
+        Access::Upper(r) => store(d, r, latch_of(d, r) as u64 + 0x1_0000_0000 * v),
+    }
+}
+
+pub fn write(d: Registers, offset: u64, width: u64, value: u64) -> Written
+    ensures { λ w. ⌜ Gives w (Registers·write d offset width value) ⌝ }
+{
+    write_to(d, access::access(offset, width), taken(width, value))
+}
