@@ -1,0 +1,5 @@
+pub mod Search
+pub mod Writing
+pub mod Outputs
+pub mod Resolving
+pub mod Outcomes
