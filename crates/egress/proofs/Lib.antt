@@ -1,5 +1,1 @@
-pub mod Search
-pub mod Writing
-pub mod Outputs
-pub mod Resolving
 pub mod Outcomes

@@ -2,22 +2,27 @@
 -- Assumes nothing.
 use Prim.Native.Nat.{ℕ, _<_, _≤_}
 use mathlib.Core.Bool.{true, false, _&&_}
+use mathlib.Core.Option.{Option}
 use mathlib.Core.Path.{_≡_, sym}
-use mathlib.Core.List.{List}
+use mathlib.Core.List.{List, []}
 use native.Mathlib.Omega.{arith}
 use lib.ListN.{length}
 use lib.Dec.{leb}
 use borrow.Author.Tests.{lt-ltb, le-ltb, leb-true}
 use Rattle.rules.specs.Answers.{number}
 use Rattle.rules.specs.Registers.{portCountAllowed, portAllowed, isUp}
-use Rattle.rules.specs.Tables.{Tables}
-use Rattle.rules.specs.Frame.{isFrame, way, exitOutputs, keep, outputs, frameRefusal}
+use Rattle.rules.specs.Keyed.{find}
+use Rattle.rules.specs.Tables.{Tables, idOf}
+use Rattle.rules.specs.Frame.{Exit, foundOutputs, isFrame, way, exitOutputs, keep, outputs, frameRefusal}
 use Rattle.rules.specs.declared.Registers.{Registers}
+use Rattle.rules.specs.declared.GroupEntry.{GroupEntry}
+use Rattle.deciding.specs.Way.{exitIn}
+use Rattle.deciding.specs.declared.WayOut.{WayOut}
 use Rattle.rules.specs.declared.Answer.the-variants.{Done, PortNotAllowed, NotAFrame, ListShort}
 use Rattle.rules.proofs.Cases.{and-left, and-right}
-use Rattle.egress.specs.Outputs.{Lists}
+use Rattle.outputs.specs.Outputs.{Lists}
 use Rattle.egress.specs.Outcome.{Outcome}
-use Rattle.egress.proofs.Writing.{lists-none}
+use Rattle.outputs.proofs.Writing.{lists-none}
 
 module _ (d : Registers) (t : Tables) (port : ℕ) (f before : List ℕ) where
   pub port-refused : portAllowed d port ≡ false → Outcome d t port f before (record { answer = PortNotAllowed; outputs = 0 }) before
@@ -63,3 +68,13 @@ port-small d port e =
     let h = leb-true port (d .ports) (and-right (leb 1 (d .ports) && leb (d .ports) 62 && leb 1 port) (leb port (d .ports)) e) in
     let k = leb-true (d .ports) 62 (and-right (leb 1 (d .ports)) (leb (d .ports) 62) count) in
     omega arith
+
+-- a way out, by whether there is one
+module _ (groups : List GroupEntry) (w : WayOut) (r : Option Exit) (e : exitIn w ≡ r) where
+  pub out-found : w .found ≡ true → exitOutputs groups r ≡ foundOutputs groups (w .vlan) (find idOf (w .group) groups)
+  unfolding exitIn exitOutputs
+  out-found p = rw (← e) (simp p)
+
+  pub out-none : w .found ≡ false → exitOutputs groups r ≡ []
+  unfolding exitIn exitOutputs
+  out-none p = rw (← e) (simp p)

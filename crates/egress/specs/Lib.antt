@@ -1,3 +1,2 @@
--- What the group's outputs and the frame call are held to.
-pub mod Outputs
+-- What the frame call is held to.
 pub mod Outcome

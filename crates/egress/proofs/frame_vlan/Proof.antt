@@ -18,15 +18,15 @@ tagged v f p e = simp p (and-mask v 12 ∙ ap (λ (x : ℕ). x % 2 ^ 12) e)
 is-tagged-requires : tie.Need-is-tagged-requires
 is-tagged-requires c κs = search needs
 
-be16-requires : tie.Need-be16-requires
-be16-requires c κs = search needs
+tag-requires : tie.Need-tag-requires
+tag-requires c κs = search needs
 
 returns : tie.Need-returns
-returns c = tagged (c .be16 .result) (c .before .before .before .before .args .f .now) (sym (c .before .before .is-tagged .ensures) ∙ c .before .if1 .taken) (c .be16 .ensures)
+returns c = tagged (c .tag .result) (c .before .before .before .before .args .f .now) (sym (c .before .before .is-tagged .ensures) ∙ c .before .if1 .taken) (c .tag .ensures)
 
 returns-2 : tie.Need-returns-2
 unfolding frameVlan
 returns-2 c = simp (sym (c .before .is-tagged .ensures) ∙ c .if1 .left)
 
 pub frame-vlan-spec : {M : Type 1} → statement M
-frame-vlan-spec = tie.close (tie.spec is-tagged-requires be16-requires returns returns-2)
+frame-vlan-spec = tie.close (tie.spec is-tagged-requires tag-requires returns returns-2)

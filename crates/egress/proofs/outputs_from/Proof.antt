@@ -1,9 +1,9 @@
 use Rattle.rules.specs.Tables.{liveFlows, liveGroups}
 use Rattle.rules.specs.Frame.{frameMac, keep, way}
-use Rattle.egress.proofs.Writing.{lists-none}
+use Rattle.outputs.proofs.Writing.{lists-none, room}
 use mathlib.Core.Path.{_∙_}
 use Rattle.deciding.proofs.Tables.{way-whole}
-use Rattle.egress.proofs.Outputs.{out-found, out-none}
+use Rattle.egress.proofs.Outcomes.{out-found, out-none}
 use borrow.Author.Needs.{needs}
 use Rattle.egress.proofs.outputs_from.Statement.{statement}
 use Rattle.egress.proofs.outputs_from.Tie as tie
@@ -29,7 +29,7 @@ returns c =
     let w = c .before .before .before .before .before in
     let a = w .before .before .before .before .before .args in
     let e = w .way .ensures ∙ way-whole (liveFlows (a .flows)) (a .port) (w .before .le48 .result) (w .before .before .frame-vlan .result) (a .f .now) (w .before .le48 .ensures) (w .before .before .frame-vlan .ensures) in
-    rw (out-found (liveGroups (a .groups)) (w .way .result) (way (liveFlows (a .flows)) (a .port) (a .f .now)) e (c .before .before .before .before .if1 .taken)) (c .before .before .group-outputs .ensures)
+    rw (out-found (liveGroups (a .groups)) (w .way .result) (way (liveFlows (a .flows)) (a .port) (a .f .now)) e (c .before .before .before .before .if1 .taken)) (rw (room _ (a .list .now) (search needs)) at (c .before .before .group-outputs .ensures))
 
 returns-2 : tie.Need-returns-2
 unfolding frameMac keep
