@@ -197,15 +197,8 @@ fn resolve(
         if j < n {
             let g = groups.entries[j];
             if g.id == id {
-                out = send(
-                    d,
-                    ingress,
-                    group_low(id),
-                    vlan,
-                    number(g.pop_vlan),
-                    out,
-                    list,
-                );
+                let pop = number(g.pop_vlan);
+                out = send(d, ingress, group_low(id), vlan, pop, out, list);
             }
         }
     }

@@ -85,11 +85,11 @@ mul-g-2 c = search needs
 element-copy-out-g-2 : tie.Need-element-copy-out-g-2 Inv-loop2 μ-loop2 Inv-loop μ-loop
 element-copy-out-g-2 c = search needs
 
-group-low-requires : tie.Need-group-low-requires Inv-loop2 μ-loop2 Inv-loop μ-loop
-group-low-requires c κs = search needs
-
 number-requires : tie.Need-number-requires Inv-loop2 μ-loop2 Inv-loop μ-loop
 number-requires c κs = search needs
+
+group-low-requires : tie.Need-group-low-requires Inv-loop2 μ-loop2 Inv-loop μ-loop
+group-low-requires c κs = search needs
 
 send-requires : tie.Need-send-requires Inv-loop2 μ-loop2 Inv-loop μ-loop
 send-requires c κs = search needs
@@ -115,7 +115,7 @@ loop-again c =
       p .loop2 .inv .1,
       resolved-sent _ _ _ _ _ _ _ _ (l .loop .inv .7) (omega arith) (i .member-id .ensures) g
           (passed-here idOf (p .loop2 .inv .1) noGroup (omega arith) (f .if3 .taken))
-          (output-is _ (i .member-id .result) _ _ g (f .if3 .taken) (c .before .before .before .before .before .group-low .ensures) (c .before .before .before .before .number .ensures))
+          (output-is _ (i .member-id .result) _ _ g (f .if3 .taken) (c .before .before .before .before .group-low .ensures) (c .before .before .before .before .before .number .ensures))
           (omega arith) (c .before .before .send .ensures),
     )
 
@@ -192,8 +192,8 @@ resolve-spec =
     loop2-again
     mul-g-2
     element-copy-out-g-2
-    group-low-requires
     number-requires
+    group-low-requires
     send-requires
     loop-less
     loop-again
