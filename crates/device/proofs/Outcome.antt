@@ -13,7 +13,7 @@ use Rattle.rules.specs.Answers.{number}
 use Rattle.rules.specs.Tables.{tablesOf, emptyTables, freshFlows, freshGroups}
 use Rattle.rules.specs.Journal.{header}
 use Rattle.rules.specs.Registers.{accessRefusal, access, readValue, readRefusal, read, taken, sets, writeTo, unlessRefused, write, withLinks, linkEffect, freshRegisters}
-use Rattle.rules.specs.Switch.{Switch, Borrowed, Result, switchOf, unchanged, readEffect, writeEffect, linkRefusal, linked, headerRefusal, headed, refusal, effect, step, freshRefusal, freshDevice}
+use Rattle.rules.specs.Switch.{Switch, Borrowed, Result, switchOf, unchanged, readEffect, writeEffect, linkRefusal, linked, headerRefusal, headed, framed, refusal, effect, step, freshRefusal, freshDevice}
 use Rattle.rules.specs.declared.Answer.{Answer}
 use Rattle.rules.specs.declared.Answer.the-variants.{Done, BufferShort}
 use Rattle.rules.specs.declared.Access.{Access}
@@ -29,6 +29,9 @@ use Rattle.rules.proofs.Switch.{refused, accepted}
 use Rattle.rules.proofs.Journal.{length-header}
 use Rattle.registers.specs.Outcomes.{Reads, Gives, Changes}
 use Rattle.registers.specs.declared.Written as regs
+use Rattle.rules.specs.Frame.{frameRefusal}
+use Rattle.egress.specs.Outcome as egress
+use Rattle.egress.specs.declared.Framed.{Framed}
 use Rattle.journal.specs.Writing.{Writes}
 use Rattle.registers.specs.declared.Changed.{Changed}
 use Rattle.registers.specs.declared.Reading.{Reading}
@@ -155,3 +158,21 @@ module _ (d : Device) (memory frame buffer list : List ℕ) where
       let e : refusal (switchOf d) (borrowed memory frame buffer list) Header ≡ 0 = rw (le-ltb _ _ h) in
       outcome-done d (borrowed memory frame buffer list) Header _ _ _ _ e
       (record { answer-is = refl; value-is = refl; interrupt-is = refl; completed-is = refl; length-is = w .length-is ∙ rw (t, length-header); outputs-are = refl; memory-is = refl; buffer-is = w .buffer-is ∙ rw t; list-is = refl; switch-is = refl; kept = λ z. refl })
+
+-- ---- Frame
+
+unfoldable pub withOutputs : Called → ℕ → Called
+withOutputs r n = record { answer = r .answer; value = r .value; interrupt = r .interrupt; completed = r .completed; length = r .length; outputs = n; device = r .device }
+
+pub frame-outcome : (d : Device) (memory f buffer list after : List ℕ) (port : ℕ) (x : Framed)
+    → egress.Outcome (d .registers) (tablesOf (d .flows) (d .groups)) port f list x after
+    → Outcome (withOutputs (quiet d (x .answer)) (x .outputs)) d memory buffer after (step (switchOf d) (borrowed memory f buffer list) (Frame port))
+unfolding withOutputs quiet refusal effect framed switchOf borrowed
+frame-outcome d memory f buffer list after port x h =
+    by-eq (frameRefusal (d .registers) port f list) 0
+    (λ z p. outcome-done d (borrowed memory f buffer list) (Frame port) _ _ _ _ z
+    (record { answer-is = h .answer ∙ z; value-is = refl; interrupt-is = refl; completed-is = refl; length-is = refl; outputs-are = h .count ∙ rw p; memory-is = refl; buffer-is = refl; list-is = h .list ∙ rw p; switch-is = refl; kept = λ n. refl }))
+    (λ n p.
+    let c : x .outputs ≡ 0 = h .count ∙ rw p in
+    let l : after ≡ list = h .list ∙ rw p in
+    rw (c, l) (outcome-refused d (borrowed memory f buffer list) (Frame port) (x .answer) (h .answer) n))

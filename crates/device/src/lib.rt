@@ -6,6 +6,7 @@ mod slot;
 use rules::Answer;
 use rules::Device;
 use rules::Registers;
+use rules::Request;
 use slot::Slot;
 ghost use mathlib.Core.Path.{_≡_};
 ghost use mathlib.Core.List.{List};
@@ -207,4 +208,44 @@ pub fn process(d: Device, memory: &mut [u8], buffer: &mut [u8]) -> Called
         return answered(d, Answer::BufferShort);
     }
     complete(d, memory, buffer, at, s)
+}
+
+// A frame in at a port: its outputs, to the start of the list.
+pub fn frame(d: Device, port: u64, f: &[u8], list: &mut [u16]) -> Called
+    ensures { λ r. ⌜ ((memory buffer : List ℕ) → Outcome r d memory buffer (now (list .exit)) (step (switchOf d) (borrowed memory (now (f .entry)) buffer (now (list .entry))) (Frame port))) ⌝ }
+{
+    let regs = d.registers;
+    let flows = d.flows;
+    let groups = d.groups;
+    let x = egress::frame(regs, flows, groups, port, f, list);
+    let answer = x.answer;
+    let n = x.outputs;
+    let mut r = answered(d, answer);
+    r.outputs = n;
+    r
+}
+
+// Any call: what it asks for, and all that it may borrow. It is the rules' step.
+pub fn call(
+    d: Device,
+    request: Request,
+    memory: &mut [u8],
+    f: &[u8],
+    buffer: &mut [u8],
+    list: &mut [u16],
+) -> Called
+    ensures { λ r. ⌜ Outcome r d (now (memory .exit)) (now (buffer .exit)) (now (list .exit)) (step (switchOf d) (borrowed (now (memory .entry)) (now (f .entry)) (now (buffer .entry)) (now (list .entry))) request) ⌝ }
+{
+    match request {
+        Request::Read { offset, width } => read(d, offset, width),
+        Request::Write {
+            offset,
+            width,
+            value,
+        } => write(d, offset, width, value),
+        Request::Link { port, up } => link(d, port, up),
+        Request::Process => process(d, memory, buffer),
+        Request::Frame { port } => frame(d, port, f, list),
+        Request::Header => header(d, buffer),
+    }
 }
