@@ -1,0 +1,254 @@
+//! The two drivers that read scripts: calls of the device, and payloads alone.
+
+use crate::device::{inside, Device};
+use crate::frame::LIST;
+use crate::journal::LONGEST;
+use crate::registers::Refusal;
+use crate::tables::Tables;
+use std::fmt::Write as _;
+use std::io::{self, BufRead, Write};
+
+pub const MEMORY_LIMIT: u64 = 1_048_576;
+pub const ROOM_LIMIT: u64 = 65_536;
+pub const LIST_LIMIT: u64 = 512;
+pub const LINE_LIMIT: usize = 65_535;
+
+/// A line's outcome: text to print, nothing to print, or why it is no call.
+pub type Outcome = Result<Option<String>, String>;
+
+/// Decimal or 0x-hexadecimal digits and nothing else, up to 64 bits.
+pub fn number(text: &str) -> Result<u64, String> {
+    let (digits, base) = match text.strip_prefix("0x") {
+        Some(digits) => (digits, 16),
+        None => (text, 10),
+    };
+    // The parser alone would take a sign.
+    if digits.is_empty() || !digits.chars().all(|c| c.is_digit(base)) {
+        return Err(format!("malformed number {text:?}"));
+    }
+    u64::from_str_radix(digits, base).map_err(|_| format!("number {text} is over 64 bits"))
+}
+
+pub fn bytes(text: &str) -> Result<Vec<u8>, String> {
+    if text == "-" {
+        return Ok(Vec::new());
+    }
+    let digits: Option<Vec<u8>> = text
+        .chars()
+        .map(|c| c.to_digit(16).map(|d| d as u8))
+        .collect();
+    match digits {
+        Some(digits) if !digits.is_empty() && digits.len() % 2 == 0 => Ok(digits
+            .chunks(2)
+            .map(|pair| pair[0] << 4 | pair[1])
+            .collect()),
+        _ => Err("malformed bytes".to_string()),
+    }
+}
+
+pub fn hex(bytes: &[u8]) -> String {
+    if bytes.is_empty() {
+        return "-".to_string();
+    }
+    let mut text = String::with_capacity(2 * bytes.len());
+    for byte in bytes {
+        let _ = write!(text, "{byte:02x}");
+    }
+    text
+}
+
+/// A number up to a limit, as a length.
+fn length(text: &str, limit: u64) -> Result<usize, String> {
+    let number = number(text)?;
+    if number > limit {
+        return Err(format!("{number} is over {limit}"));
+    }
+    Ok(number as usize)
+}
+
+fn vectors(raised: bool) -> &'static str {
+    if raised {
+        "0"
+    } else {
+        "-"
+    }
+}
+
+/// A line without its end; `None` for those that are passed over.
+fn text(line: &[u8]) -> Result<Option<&str>, String> {
+    if line.len() > LINE_LIMIT {
+        return Err(format!("line is over {LINE_LIMIT} bytes"));
+    }
+    if line.is_empty() || line[0] == b'#' {
+        return Ok(None);
+    }
+    std::str::from_utf8(line)
+        .map(Some)
+        .map_err(|_| "line is no text".to_string())
+}
+
+#[derive(Clone, Debug, Default)]
+pub struct Console {
+    pub memory: Vec<u8>,
+    pub device: Option<Device>,
+}
+
+impl Console {
+    pub fn line(&mut self, line: &[u8]) -> Outcome {
+        let Some(text) = text(line)? else {
+            return Ok(None);
+        };
+        let words: Vec<&str> = text.split(' ').collect();
+        match words[..] {
+            ["memory", size] => {
+                self.memory = vec![0; length(size, MEMORY_LIMIT)?];
+                Ok(None)
+            }
+            ["poke", address, data] => {
+                let (address, data) = (number(address)?, bytes(data)?);
+                let place = inside(&self.memory, u128::from(address), data.len() as u128)
+                    .ok_or("poke outside memory")?;
+                self.memory[place].copy_from_slice(&data);
+                Ok(None)
+            }
+            ["peek", address, size] => {
+                let (address, size) = (number(address)?, number(size)?);
+                let place = inside(&self.memory, u128::from(address), u128::from(size))
+                    .ok_or("peek outside memory")?;
+                Ok(Some(hex(&self.memory[place])))
+            }
+            ["fresh", ports, switch_id] => {
+                let (ports, switch_id) = (number(ports)?, number(switch_id)?);
+                Ok(Some(match Device::fresh(ports, switch_id) {
+                    Ok(device) => {
+                        self.device = Some(device);
+                        "0".to_string()
+                    }
+                    Err(refusal) => refusal.number().to_string(),
+                }))
+            }
+            _ => self.device_call(&words).map(Some),
+        }
+    }
+
+    fn device_call(&mut self, words: &[&str]) -> Result<String, String> {
+        let memory = &mut self.memory;
+        let device = self.device.as_mut().ok_or("no device");
+        let refused = |refusal: Refusal, rest| format!("{} {rest}", refusal.number());
+        Ok(match *words {
+            ["link", port, up] => {
+                let (port, up) = (number(port)?, length(up, 1)? == 1);
+                match device?.link(port, up) {
+                    Ok(()) => "0".to_string(),
+                    Err(refusal) => refusal.number().to_string(),
+                }
+            }
+            ["read", width, offset] => {
+                let (width, offset) = (number(width)?, number(offset)?);
+                match device?.read(width, offset) {
+                    Ok(value) => format!("0 {value}"),
+                    Err(refusal) => refused(refusal, "0"),
+                }
+            }
+            ["write", width, offset, value] => {
+                let (width, offset, value) = (number(width)?, number(offset)?, number(value)?);
+                match device?.write(width, offset, value) {
+                    Ok(raised) => format!("0 {}", vectors(raised)),
+                    Err(refusal) => refused(refusal, "-"),
+                }
+            }
+            ["work", room] => {
+                let mut room = vec![0; length(room, ROOM_LIMIT)?];
+                match device?.work(memory, &mut room) {
+                    Ok(done) => format!("0 {} {}", vectors(done.raised), hex(&room[..done.length])),
+                    Err(refusal) => refused(refusal, "- -"),
+                }
+            }
+            ["frame", port, data] => frame(device?, number(port)?, &bytes(data)?, LIST),
+            ["frame", port, data, list] => {
+                let (port, data, list) = (number(port)?, bytes(data)?, length(list, LIST_LIMIT)?);
+                frame(device?, port, &data, list)
+            }
+            ["header", room] => {
+                let mut room = vec![0; length(room, ROOM_LIMIT)?];
+                match device?.header(&mut room) {
+                    Ok(length) => format!("0 {}", hex(&room[..length])),
+                    Err(refusal) => refused(refusal, "-"),
+                }
+            }
+            _ => return Err("no call".to_string()),
+        })
+    }
+}
+
+fn frame(device: &Device, port: u64, data: &[u8], list: usize) -> String {
+    let mut list = vec![0; list];
+    match device.frame(port, data, &mut list) {
+        Ok(count) => {
+            let mut text = format!("0 {count}");
+            for value in &list[..3 * count] {
+                let _ = write!(text, " {value}");
+            }
+            text
+        }
+        Err(refusal) => format!("{} 0", refusal.number()),
+    }
+}
+
+/// Payloads alone, carried out on tables without a ring.
+#[derive(Clone, Debug, Default)]
+pub struct Execute {
+    pub tables: Option<Tables>,
+}
+
+impl Execute {
+    pub fn line(&mut self, line: &[u8]) -> Outcome {
+        let Some(text) = text(line)? else {
+            return Ok(None);
+        };
+        let words: Vec<&str> = text.split(' ').collect();
+        match words[..] {
+            ["ports", ports] => {
+                let ports = length(ports, 62)?;
+                if ports == 0 {
+                    return Err("a device has 1 to 62 ports".to_string());
+                }
+                self.tables = Some(Tables::empty(ports as u32));
+                Ok(None)
+            }
+            ["payload", data] => {
+                let data = bytes(data)?;
+                if data.len() > LONGEST {
+                    return Err(format!("payload is over {LONGEST} bytes"));
+                }
+                let tables = self.tables.as_mut().ok_or("no ports")?;
+                let status = tables.execute(&data);
+                let (flows, groups) = (tables.flows.len(), tables.groups.len());
+                Ok(Some(format!("{} {flows} {groups}", status.code())))
+            }
+            _ => Err("no call".to_string()),
+        }
+    }
+}
+
+/// Feeds a script to one of the two, a line at a time.
+pub fn run(name: &str, mut call: impl FnMut(&[u8]) -> Outcome) -> io::Result<()> {
+    let mut input = io::stdin().lock();
+    let mut output = io::BufWriter::new(io::stdout().lock());
+    let mut line = Vec::new();
+    for count in 1u64.. {
+        line.clear();
+        if input.read_until(b'\n', &mut line)? == 0 {
+            break;
+        }
+        if line.last() == Some(&b'\n') {
+            line.pop();
+        }
+        match call(&line) {
+            Ok(Some(text)) => writeln!(output, "{text}")?,
+            Ok(None) => {}
+            Err(reason) => eprintln!("{name}: line {count}: {reason}"),
+        }
+    }
+    output.flush()
+}

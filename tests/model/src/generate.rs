@@ -1,0 +1,58 @@
+//! Seeded makers of input: console scripts, trails and payload scripts.
+//!
+//! A maker runs its own output as it goes, so that it knows what is live and
+//! can aim at the edges; the input it prints stands by itself.
+
+mod commands;
+mod payloads;
+mod script;
+mod trail;
+
+pub use payloads::payloads;
+pub use script::script;
+pub use trail::journal;
+
+/// The splitmix generator: small, and the same everywhere.
+pub struct Rng(u64);
+
+impl Rng {
+    pub fn new(seed: u64) -> Self {
+        Rng(seed)
+    }
+
+    pub fn next(&mut self) -> u64 {
+        self.0 = self.0.wrapping_add(0x9e37_79b9_7f4a_7c15);
+        let mut z = self.0;
+        z = (z ^ (z >> 30)).wrapping_mul(0xbf58_476d_1ce4_e5b9);
+        z = (z ^ (z >> 27)).wrapping_mul(0x94d0_49bb_1331_11eb);
+        z ^ (z >> 31)
+    }
+
+    /// A number from `low` to `high`, both included.
+    pub fn range(&mut self, low: u64, high: u64) -> u64 {
+        let choices = u128::from(high - low) + 1;
+        low + ((u128::from(self.next()) * choices) >> 64) as u64
+    }
+
+    fn index(&mut self, length: usize) -> usize {
+        self.range(0, length as u64 - 1) as usize
+    }
+
+    fn chance(&mut self, percent: u64) -> bool {
+        self.range(1, 100) <= percent
+    }
+
+    fn pick<T: Clone>(&mut self, from: &[T]) -> T {
+        from[self.index(from.len())].clone()
+    }
+
+    fn shuffle<T>(&mut self, items: &mut [T]) {
+        for last in (1..items.len()).rev() {
+            items.swap(last, self.range(0, last as u64) as usize);
+        }
+    }
+
+    fn bytes(&mut self, length: usize) -> Vec<u8> {
+        (0..length).map(|_| self.next() as u8).collect()
+    }
+}

@@ -1,0 +1,772 @@
+//! Commands as payloads: valid ones of every form, and these with one thing
+//! changed.
+
+use super::Rng;
+use crate::journal;
+use crate::tables::{field, id_low, id_type, id_vlan, Tables};
+use crate::tables::{CMD_INFO, CMD_TYPE};
+
+#[derive(Clone, Debug, PartialEq, Eq)]
+pub struct Field {
+    pub kind: u32,
+    pub value: Vec<u8>,
+}
+
+pub fn f(kind: u32, value: impl AsRef<[u8]>) -> Field {
+    Field {
+        kind,
+        value: value.as_ref().to_vec(),
+    }
+}
+
+/// TLVs in a row, with a given pad and fill.
+pub fn encode(fields: &[Field], pad: u16, fill: u8) -> Vec<u8> {
+    let mut out = Vec::new();
+    for field in fields {
+        out.extend(field.kind.to_le_bytes());
+        out.extend((field.value.len() as u16).to_le_bytes());
+        out.extend(pad.to_le_bytes());
+        out.extend(&field.value);
+        out.resize(out.len().div_ceil(8) * 8, fill);
+    }
+    out
+}
+
+/// A command before it is put into bytes, so that single fields can be spoiled.
+#[derive(Clone, Debug, PartialEq, Eq)]
+pub struct Command {
+    pub code: u16,
+    pub fields: Vec<Field>,
+}
+
+impl Command {
+    pub fn info(&self) -> Vec<u8> {
+        encode(&self.fields, 0, 0)
+    }
+
+    pub fn payload(&self) -> Vec<u8> {
+        top(self.code, &self.info())
+    }
+
+    pub fn with(&self, change: impl FnOnce(&mut Vec<Field>)) -> Vec<u8> {
+        let mut other = self.clone();
+        change(&mut other.fields);
+        other.payload()
+    }
+
+    pub fn set(&mut self, kind: u32, value: impl AsRef<[u8]>) {
+        self.fields.retain(|field| field.kind != kind);
+        self.fields.push(f(kind, value));
+    }
+
+    pub fn get(&self, kind: u32) -> Option<&[u8]> {
+        let field = self.fields.iter().find(|field| field.kind == kind)?;
+        Some(&field.value)
+    }
+}
+
+pub fn top(code: u16, info: &[u8]) -> Vec<u8> {
+    encode(&[f(CMD_TYPE, code.to_le_bytes()), f(CMD_INFO, info)], 0, 0)
+}
+
+pub fn group_id(kind: u32, vlan: u16, low: u16) -> u32 {
+    kind << 28 | u32::from(vlan) << 16 | u32::from(low)
+}
+
+pub fn member_list(ids: &[u32]) -> Vec<u8> {
+    let fields: Vec<Field> = (1..)
+        .zip(ids)
+        .map(|(k, id)| f(k, id.to_le_bytes()))
+        .collect();
+    encode(&fields, 0, 0)
+}
+
+pub const VLANS: [u16; 5] = [1, 2, 7, 100, 4094];
+pub const MACS: [[u8; 6]; 6] = [
+    [0x02, 0, 0, 0, 0, 1],
+    [0x02, 0, 0, 0, 0, 2],
+    [0x00, 0x11, 0x22, 0x33, 0x44, 0x55],
+    [0x01, 0, 0x5e, 0, 0, 1],
+    [0xff; 6],
+    [0x33, 0x33, 0, 0, 0, 1],
+];
+
+pub fn vlan(rng: &mut Rng) -> u16 {
+    if rng.chance(95) {
+        rng.pick(&VLANS)
+    } else {
+        rng.range(1, 4094) as u16
+    }
+}
+
+pub fn cookie(rng: &mut Rng) -> u64 {
+    match rng.range(0, 9) {
+        0 => rng.next(),
+        1 => rng.pick(&[0, 1 << 32, 1 << 63, u64::MAX, u64::MAX - 1]),
+        _ => rng.range(0, 400),
+    }
+}
+
+pub fn priority(rng: &mut Rng) -> u32 {
+    // Few values, so that ties are common.
+    rng.pick(&[0, 1, 1, 1, 2, 0x7fff_ffff, 0x8000_0000, u32::MAX])
+}
+
+/// A valid flow for one table.
+pub fn flow(rng: &mut Rng, tables: &Tables, code: u16, cookie: u64, table: u16) -> Command {
+    let ports = u64::from(tables.ports);
+    let mut fields = vec![
+        f(field::TBL, table.to_le_bytes()),
+        f(field::PRIORITY, priority(rng).to_le_bytes()),
+        f(field::COOKIE, cookie.to_le_bytes()),
+    ];
+    if rng.chance(30) {
+        fields.push(f(field::HARDTIME, (rng.next() as u32).to_le_bytes()));
+    }
+    if rng.chance(30) {
+        fields.push(f(field::IDLETIME, (rng.next() as u32).to_le_bytes()));
+    }
+    let port = rng.range(1, ports) as u32;
+    let onward: u16 = match table {
+        0 => {
+            let port = if rng.chance(80) {
+                port
+            } else {
+                rng.next() as u32
+            };
+            let mask = rng.pick(&[u32::MAX, 0, 1, 3, 7, 0x3f, 0xffff_fff8, 0x8000_0000]);
+            fields.push(f(field::IN_PPORT, port.to_le_bytes()));
+            fields.push(f(field::IN_PPORT_MASK, mask.to_le_bytes()));
+            10
+        }
+        10 => {
+            let vlan_id = if rng.chance(40) { 0 } else { vlan(rng) };
+            fields.push(f(field::IN_PPORT, port.to_le_bytes()));
+            fields.push(f(field::VLAN_ID, vlan_id.to_be_bytes()));
+            if vlan_id == 0 {
+                fields.push(f(field::NEW_VLAN_ID, vlan(rng).to_be_bytes()));
+            }
+            20
+        }
+        _ => {
+            let vlan_id = vlan(rng);
+            let mac = rng.chance(75).then(|| {
+                if rng.chance(90) {
+                    rng.pick(&MACS)
+                } else {
+                    rng.next().to_le_bytes()[..6].try_into().unwrap_or_default()
+                }
+            });
+            let kinds: &[u32] = match mac {
+                None => &[4],
+                Some(mac) if mac[0] % 2 == 0 => &[0],
+                Some(_) => &[3, 4],
+            };
+            fields.push(f(field::VLAN_ID, vlan_id.to_be_bytes()));
+            if let Some(mac) = mac {
+                fields.push(f(field::DST_MAC, mac));
+            }
+            if rng.chance(85) {
+                let kind = rng.pick(kinds);
+                // Mostly a group that is there, else one that is only named.
+                let live: Vec<u32> = tables
+                    .groups
+                    .keys()
+                    .copied()
+                    .filter(|id| id_type(*id) == kind && id_vlan(*id) == vlan_id)
+                    .collect();
+                let id = if !live.is_empty() && rng.chance(85) {
+                    rng.pick(&live)
+                } else {
+                    group_id(kind, vlan_id, rng.range(0, ports + 2) as u16)
+                };
+                fields.push(f(field::GROUP_ID, id.to_le_bytes()));
+            }
+            60
+        }
+    };
+    let goto = if rng.chance(90) { onward } else { 0 };
+    fields.push(f(field::GOTO_TBL, goto.to_le_bytes()));
+    Command { code, fields }
+}
+
+/// Distinct members of one VLAN, mostly ports that are there.
+pub fn member_ids(rng: &mut Rng, tables: &Tables, vlan: u16) -> Vec<u32> {
+    let count = if rng.chance(90) {
+        rng.range(1, 6)
+    } else {
+        rng.range(1, 62)
+    };
+    let mut ids: Vec<u32> = Vec::new();
+    while ids.len() < count as usize {
+        let low = if rng.chance(90) && count <= u64::from(tables.ports) {
+            rng.range(0, u64::from(tables.ports)) as u16
+        } else {
+            rng.next() as u16
+        };
+        let id = group_id(0, vlan, low);
+        if !ids.contains(&id) {
+            ids.push(id);
+        }
+    }
+    ids
+}
+
+/// A valid group with a given ID.
+pub fn group(rng: &mut Rng, tables: &Tables, code: u16, id: u32) -> Command {
+    let mut fields = vec![f(field::GROUP_ID, id.to_le_bytes())];
+    if id_type(id) == 0 {
+        fields.push(f(field::OUT_PPORT, u32::from(id_low(id)).to_le_bytes()));
+        fields.push(f(field::POP_VLAN, [rng.range(0, 1) as u8]));
+    } else {
+        let ids = member_ids(rng, tables, id_vlan(id));
+        fields.push(f(field::GROUP_COUNT, (ids.len() as u16).to_le_bytes()));
+        fields.push(f(field::GROUP_IDS, member_list(&ids)));
+    }
+    Command { code, fields }
+}
+
+pub fn fresh_group_id(rng: &mut Rng, ports: u32) -> u32 {
+    let kind = rng.pick(&[0, 0, 0, 3, 4]);
+    let low = match (kind, rng.chance(90)) {
+        (0, _) => rng.range(0, u64::from(ports)) as u16,
+        (_, true) => rng.range(0, 4) as u16,
+        (_, false) => rng.next() as u16,
+    };
+    group_id(kind, vlan(rng), low)
+}
+
+/// Mostly a key that is live, if there is one.
+pub fn live_key<K: Copy>(rng: &mut Rng, keys: impl Iterator<Item = K>, percent: u64) -> Option<K> {
+    let keys: Vec<K> = keys.collect();
+    (!keys.is_empty() && rng.chance(percent)).then(|| rng.pick(&keys))
+}
+
+/// A command that is right in form; it may still miss or meet its key.
+pub fn command(rng: &mut Rng, tables: &Tables) -> Command {
+    let table = rng.pick(&[0, 10, 10, 50, 50]);
+    match rng.range(0, 99) {
+        0..=32 => {
+            let key = live_key(rng, tables.flows.keys().copied(), 10);
+            let key = key.unwrap_or_else(|| cookie(rng));
+            flow(rng, tables, 3, key, table)
+        }
+        33..=43 => {
+            let key = live_key(rng, tables.flows.keys().copied(), 80);
+            let key = key.unwrap_or_else(|| cookie(rng));
+            flow(rng, tables, 4, key, table)
+        }
+        44..=51 => {
+            let key = live_key(rng, tables.flows.keys().copied(), 80);
+            let key = key.unwrap_or_else(|| cookie(rng));
+            Command {
+                code: 5,
+                fields: vec![f(field::COOKIE, key.to_le_bytes())],
+            }
+        }
+        52..=81 => {
+            let id = live_key(rng, tables.groups.keys().copied(), 10);
+            let id = id.unwrap_or_else(|| fresh_group_id(rng, tables.ports));
+            group(rng, tables, 7, id)
+        }
+        82..=92 => {
+            let id = live_key(rng, tables.groups.keys().copied(), 80);
+            let id = id.unwrap_or_else(|| fresh_group_id(rng, tables.ports));
+            group(rng, tables, 8, id)
+        }
+        _ => {
+            let id = live_key(rng, tables.groups.keys().copied(), 80);
+            let id = id.unwrap_or_else(|| fresh_group_id(rng, tables.ports));
+            Command {
+                code: 9,
+                fields: vec![f(field::GROUP_ID, id.to_le_bytes())],
+            }
+        }
+    }
+}
+
+/// The values next to the edges of a field, right and wrong ones.
+pub fn edge_values(command: &Command, kind: u32, ports: u32) -> Vec<Vec<u8>> {
+    let le16 = |values: &[u16]| values.iter().map(|v| v.to_le_bytes().to_vec()).collect();
+    let be16 = |values: &[u16]| values.iter().map(|v| v.to_be_bytes().to_vec()).collect();
+    let le32 = |values: &[u32]| values.iter().map(|v| v.to_le_bytes().to_vec()).collect();
+    match kind {
+        field::TBL => le16(&[0, 1, 10, 20, 30, 40, 50, 51, 60, 0x0a00, 0x3200, 0xffff]),
+        field::PRIORITY | field::HARDTIME | field::IDLETIME => le32(&[0, 1, u32::MAX]),
+        field::COOKIE => [0, 1, u64::MAX].map(|v| v.to_le_bytes().to_vec()).to_vec(),
+        field::IN_PPORT => le32(&[
+            0,
+            1,
+            ports,
+            ports + 1,
+            62,
+            63,
+            1 << 16,
+            0x0100_0000,
+            u32::MAX,
+        ]),
+        field::IN_PPORT_MASK => le32(&[0, 1, u32::MAX]),
+        field::OUT_PPORT => {
+            let low = command.get(field::GROUP_ID).map_or(0, |v| u32::from(v[0]));
+            le32(&[
+                0,
+                1,
+                low,
+                low + 1,
+                low | 1 << 16,
+                low << 8,
+                ports,
+                ports + 1,
+                u32::MAX,
+            ])
+        }
+        field::GOTO_TBL => le16(&[0, 1, 10, 20, 50, 60, 0x0a00, 0x1400, 0x3c00, 0xffff]),
+        field::VLAN_ID | field::NEW_VLAN_ID => {
+            be16(&[0, 1, 2, 4094, 4095, 4096, 0x0100, 0x1001, 0xffff])
+        }
+        field::GROUP_ID => {
+            let old = command
+                .get(field::GROUP_ID)
+                .map_or(0, |v| u32::from_le_bytes(v.try_into().unwrap_or_default()));
+            let mut ids: Vec<u32> = (0..16).map(|t| t << 28 | old & 0x0fff_ffff).collect();
+            for vlan in [0, 1, 2, 4094, 4095] {
+                ids.push(group_id(id_type(old), vlan, id_low(old)));
+            }
+            for low in [0, 1, ports as u16, ports as u16 + 1, 63, 0x100, 0xffff] {
+                ids.push(old & 0xffff_0000 | u32::from(low));
+            }
+            ids.push(old.swap_bytes());
+            le32(&ids)
+        }
+        field::GROUP_COUNT => {
+            let old = command.get(kind).map_or(0, |v| u16::from(v[0]));
+            le16(&[
+                0,
+                1,
+                old.wrapping_sub(1),
+                old + 1,
+                62,
+                63,
+                old << 8,
+                old | 0x100,
+                0xffff,
+            ])
+        }
+        field::GROUP_IDS => spoiled_lists(command),
+        field::DST_MAC => {
+            let old = command.get(kind).map(<[u8]>::to_vec).unwrap_or_default();
+            let mut odd = old.clone();
+            odd[0] ^= 1;
+            let mut last = old;
+            last[5] ^= 1;
+            vec![odd, last, vec![0; 6], vec![0xff; 6]]
+        }
+        field::POP_VLAN => vec![vec![0], vec![1], vec![2], vec![0x80], vec![0xff]],
+        _ => Vec::new(),
+    }
+}
+
+/// Member lists with one thing changed, and some that stay right.
+pub fn spoiled_lists(command: &Command) -> Vec<Vec<u8>> {
+    let nest = command.get(field::GROUP_IDS).unwrap_or_default();
+    let ids: Vec<u32> = nest
+        .chunks(16)
+        .map(|tlv| u32::from_le_bytes(tlv[8..12].try_into().unwrap_or_default()))
+        .collect();
+    let fields: Vec<Field> = (1..)
+        .zip(&ids)
+        .map(|(k, id)| f(k, id.to_le_bytes()))
+        .collect();
+    let last = ids.len() - 1;
+    let changed = |change: &dyn Fn(&mut Vec<Field>)| {
+        let mut fields = fields.clone();
+        change(&mut fields);
+        encode(&fields, 0, 0)
+    };
+    let member = |id: u32| changed(&|list| list[last].value = id.to_le_bytes().to_vec());
+    let mut lists = vec![
+        Vec::new(),
+        changed(&|list| drop(list.pop())),
+        changed(&|list| list.push(f(list.len() as u32 + 1, 0x0001_0001u32.to_le_bytes()))),
+        changed(&|list| list.push(f(99, []))),
+        changed(&|list| list.insert(0, f(99, [0; 4]))),
+        changed(&|list| list[last].value.push(0)),
+        changed(&|list| list[last].value.truncate(3)),
+        changed(&|list| list[last].value.clear()),
+        changed(&|list| list[last].value = vec![0; 8]),
+        changed(&|list| list[last].kind += 1),
+        changed(&|list| list[last].kind -= 1),
+        changed(&|list| list[last].kind |= 1 << 16),
+        changed(&|list| list.iter_mut().for_each(|field| field.kind -= 1)),
+        changed(&|list| list.reverse()),
+        encode(&fields, 0xabcd, 0x77),
+        member(ids[0]),
+        member(ids[last] ^ 1 << 16),
+        member(ids[last] & 0xf000_ffff),
+        member(ids[last] | 3 << 28),
+        member(ids[last] | 4 << 28),
+        member(ids[last] | 1 << 28),
+        member(ids[last] | 0xffff),
+        nest[..nest.len() - 4].to_vec(),
+        nest[..nest.len() - 8].to_vec(),
+        [nest, &[0; 4]].concat(),
+        [nest, &[0; 8]].concat(),
+    ];
+    let mut long = nest.to_vec();
+    long[4] = 0xff;
+    lists.push(long);
+    lists
+}
+
+/// The types that a command uses, by its code and table or group type.
+pub fn used(command: &Command) -> &'static [u32] {
+    use field::*;
+    let number = |kind| command.get(kind).map_or(0, |v| v[0]);
+    match command.code {
+        5 => &[COOKIE],
+        9 => &[GROUP_ID],
+        3 | 4 => match number(TBL) {
+            0 => &[
+                TBL,
+                PRIORITY,
+                HARDTIME,
+                IDLETIME,
+                COOKIE,
+                IN_PPORT,
+                IN_PPORT_MASK,
+                GOTO_TBL,
+            ],
+            10 => &[
+                TBL,
+                PRIORITY,
+                HARDTIME,
+                IDLETIME,
+                COOKIE,
+                IN_PPORT,
+                VLAN_ID,
+                GOTO_TBL,
+                NEW_VLAN_ID,
+            ],
+            _ => &[
+                TBL, PRIORITY, HARDTIME, IDLETIME, COOKIE, VLAN_ID, DST_MAC, GOTO_TBL, GROUP_ID,
+            ],
+        },
+        _ => match command.get(GROUP_ID).map_or(0, |v| v[3] >> 4) {
+            0 => &[GROUP_ID, OUT_PPORT, POP_VLAN],
+            _ => &[GROUP_ID, GROUP_COUNT, GROUP_IDS],
+        },
+    }
+}
+
+pub const LISTED: [(u32, usize); 16] = [
+    (field::TBL, 2),
+    (field::PRIORITY, 4),
+    (field::HARDTIME, 4),
+    (field::IDLETIME, 4),
+    (field::COOKIE, 8),
+    (field::IN_PPORT, 4),
+    (field::IN_PPORT_MASK, 4),
+    (field::OUT_PPORT, 4),
+    (field::GOTO_TBL, 2),
+    (field::GROUP_ID, 4),
+    (field::GROUP_COUNT, 2),
+    (field::GROUP_IDS, 16),
+    (field::VLAN_ID, 2),
+    (field::NEW_VLAN_ID, 2),
+    (field::DST_MAC, 6),
+    (field::POP_VLAN, 1),
+];
+
+/// A command with one thing changed, once for each thing: what is missing,
+/// repeated, of another width or next to an edge, what is skipped, what is ill
+/// formed, and pairs of faults whose order matters.
+pub fn variations(rng: &mut Rng, command: &Command, ports: u32) -> Vec<Vec<u8>> {
+    let mut out = Vec::new();
+    let code = command.code.to_le_bytes();
+    let info = command.info();
+    let with = |change: &dyn Fn(&mut Vec<Field>)| command.with(|fields| change(fields));
+
+    for (at, old) in command.fields.iter().enumerate() {
+        let width = old.value.len();
+        out.push(with(&|fields| drop(fields.remove(at))));
+        out.push(with(&|fields| fields.insert(at, old.clone())));
+        out.push(with(&|fields| fields.push(old.clone())));
+        let other: Vec<u8> = old.value.iter().map(|byte| byte ^ 1).collect();
+        out.push(with(&|fields| fields.push(f(old.kind, &other))));
+        out.push(with(&|fields| fields.insert(0, f(old.kind, []))));
+        for new in [
+            0,
+            width.saturating_sub(1),
+            width + 1,
+            width + 2,
+            2 * width,
+            width + 8,
+        ] {
+            out.push(with(&|fields| fields[at].value.resize(new, 0)));
+        }
+        for value in edge_values(command, old.kind, ports) {
+            out.push(with(&|fields| fields[at].value = value.clone()));
+            // A value next to the edge together with a fault of another field.
+            if old.kind == field::TBL && command.fields.len() > 1 {
+                out.push(with(&|fields| {
+                    fields[at].value = value.clone();
+                    fields.retain(|field| field.kind == field::TBL);
+                }));
+                out.push(with(&|fields| {
+                    fields[at].value = value.clone();
+                    fields.push(f(field::TBL, &value));
+                }));
+                out.push(with(&|fields| {
+                    fields[at].value = value.clone();
+                    fields[at].value.push(0);
+                }));
+            }
+        }
+    }
+    // Fields that are listed elsewhere, and those that are listed nowhere.
+    for (kind, width) in LISTED {
+        let junk = rng.bytes(width);
+        out.push(with(&|fields| fields.push(f(kind, &junk))));
+        if !used(command).contains(&kind) {
+            out.push(with(&|fields| {
+                fields.insert(0, f(kind, &junk[1..]));
+                fields.push(f(kind, &junk));
+                fields.push(f(kind, [1; 9]));
+            }));
+        }
+    }
+    for kind in [0, 11, 15, 18, 20, 23, 25, 42, 44, 99, 1 << 16 | 1, u32::MAX] {
+        let junk = rng.range(0, 20) as usize;
+        let junk = rng.bytes(junk);
+        out.push(with(&|fields| {
+            fields.insert(0, f(kind, &junk));
+            fields.push(f(kind, []));
+        }));
+    }
+    out.push(with(&|fields| fields.reverse()));
+    out.push(with(&|fields| fields.clear()));
+    let noisy = encode(&command.fields, 0xbeef, 0x5a);
+    let pair = [f(CMD_TYPE, code), f(CMD_INFO, &noisy)];
+    out.push(encode(&pair, 0x1234, 0xa5));
+
+    // Nests that are ill formed, or only just not.
+    let mut nests = vec![
+        [&info[..], &[0; 4]].concat(),
+        [&info[..], &[0; 8]].concat(),
+        [&info[..], &[0; 1]].concat(),
+        [&info[..], &[99, 0, 0, 0, 1, 0, 0, 0]].concat(),
+        [
+            &info[..],
+            &[99, 0, 0, 0, 8, 0, 0, 0, 1, 2, 3, 4, 5, 6, 7, 8],
+        ]
+        .concat(),
+    ];
+    for cut in [1, 4, 7, 8] {
+        if info.len() > cut {
+            nests.push(info[..info.len() - cut].to_vec());
+        }
+    }
+    if info.len() >= 8 {
+        let mut long = info.clone();
+        long[4] = 0xff;
+        long[5] = 0xff;
+        nests.push(long);
+    }
+    for nest in &nests {
+        out.push(top(command.code, nest));
+        // An unknown command comes before its nest.
+        out.push(top(6, nest));
+    }
+    // The top.
+    let unknown = [
+        0,
+        1,
+        2,
+        6,
+        10,
+        11,
+        command.code << 8,
+        0x100 | command.code,
+        0xffff,
+    ];
+    for other in unknown {
+        out.push(top(other, &info));
+        out.push(top(other, &[]));
+    }
+    for other in [3, 4, 5, 7, 8, 9] {
+        out.push(top(other, &info));
+    }
+    let (a, b) = (f(CMD_TYPE, code), f(CMD_INFO, &info));
+    let tops: Vec<Vec<Field>> = vec![
+        vec![],
+        vec![a.clone()],
+        vec![b.clone()],
+        vec![b.clone(), a.clone()],
+        vec![a.clone(), a.clone(), b.clone()],
+        vec![a.clone(), b.clone(), f(CMD_TYPE, [6, 0])],
+        vec![a.clone(), b.clone(), b.clone()],
+        vec![a.clone(), f(CMD_INFO, []), b.clone()],
+        vec![f(CMD_TYPE, []), b.clone()],
+        vec![f(CMD_TYPE, &code[..1]), b.clone()],
+        vec![f(CMD_TYPE, [code[0], 0, 0]), b.clone()],
+        vec![f(CMD_TYPE, [code[0], 0, 0, 0]), b.clone()],
+        vec![f(CMD_TYPE, [6, 0])],
+        vec![f(CMD_TYPE, [6, 0]), b.clone(), b.clone()],
+        vec![f(CMD_TYPE, [6, 0]), f(CMD_TYPE, [6, 0]), b.clone()],
+        vec![f(3, [1; 3]), a.clone(), f(99, []), b.clone(), f(3, [1])],
+        vec![f(0, []), f(5, [0; 9]), f(5, []), a.clone(), b.clone()],
+        vec![f(1 << 16 | 1, []), a.clone(), b.clone()],
+    ];
+    for fields in &tops {
+        out.push(encode(fields, 0, 0));
+    }
+    let payload = command.payload();
+    for cut in [1, 4, 8, 16] {
+        out.push(payload[..payload.len() - cut].to_vec());
+    }
+    out.push([&payload[..], &[0; 4]].concat());
+    out.push([&payload[..], &[0; 8]].concat());
+    // The same with a nest that is too long for the payload.
+    let mut long = payload.clone();
+    let at = 16 + 4;
+    long[at] = long[at].wrapping_add(8);
+    out.push(long);
+    for _ in 0..4 {
+        let mut flipped = payload.clone();
+        let at = rng.index(flipped.len());
+        flipped[at] ^= 1 << rng.range(0, 7);
+        out.push(flipped);
+    }
+    out.retain(|payload| payload.len() <= journal::LONGEST);
+    out
+}
+
+/// A payload for the tables as they are: mostly valid, else varied once.
+pub fn any_payload(rng: &mut Rng, tables: &Tables, valid: u64) -> Vec<u8> {
+    let mut command = command(rng, tables);
+    if rng.chance(valid) {
+        if rng.chance(20) {
+            rng.shuffle(&mut command.fields);
+        }
+        return command.payload();
+    }
+    let all = variations(rng, &command, tables.ports);
+    rng.pick(&all)
+}
+
+/// One command of each form, with keys that are live or not.
+pub fn forms(rng: &mut Rng, tables: &Tables) -> Vec<Command> {
+    let mut out = Vec::new();
+    let key = |rng: &mut Rng| {
+        let live = live_key(rng, tables.flows.keys().copied(), 50);
+        live.unwrap_or_else(|| cookie(rng))
+    };
+    let v = vlan(rng);
+    for code in [3, 4] {
+        for table in [0, 10, 50] {
+            let cookie = key(rng);
+            out.push(flow(rng, tables, code, cookie, table));
+        }
+        for vlan_id in [0, v] {
+            let cookie = key(rng);
+            let mut command = flow(rng, tables, code, cookie, 10);
+            command
+                .fields
+                .retain(|field| field.kind != field::NEW_VLAN_ID);
+            command.set(field::VLAN_ID, vlan_id.to_be_bytes());
+            if vlan_id == 0 {
+                command.set(field::NEW_VLAN_ID, v.to_be_bytes());
+            }
+            out.push(command);
+        }
+        for (mac, kind) in [
+            (Some(MACS[0]), Some(0)),
+            (Some(MACS[3]), Some(3)),
+            (Some(MACS[4]), Some(4)),
+            (None, Some(4)),
+            (Some(MACS[1]), None),
+            (None, None),
+        ] {
+            let cookie = key(rng);
+            let mut command = flow(rng, tables, code, cookie, 50);
+            command
+                .fields
+                .retain(|field| ![field::DST_MAC, field::GROUP_ID].contains(&field.kind));
+            command.set(field::VLAN_ID, v.to_be_bytes());
+            if let Some(mac) = mac {
+                command.set(field::DST_MAC, mac);
+            }
+            if let Some(kind) = kind {
+                let id = group_id(kind, v, rng.range(0, u64::from(tables.ports)) as u16);
+                command.set(field::GROUP_ID, id.to_le_bytes());
+            }
+            out.push(command);
+        }
+    }
+    let cookie = key(rng);
+    out.push(Command {
+        code: 5,
+        fields: vec![f(field::COOKIE, cookie.to_le_bytes())],
+    });
+    for kind in [0, 3, 4] {
+        for code in [7, 8, 9] {
+            let low = rng.range(0, u64::from(tables.ports)) as u16;
+            let mut command = group(rng, tables, code, group_id(kind, v, low));
+            if code == 9 {
+                command.fields.truncate(1);
+            }
+            out.push(command);
+        }
+    }
+    out
+}
+
+/// Lists of 62 and 63 members that agree with their count.
+pub fn longest_lists(rng: &mut Rng, vlan: u16) -> Vec<Vec<u8>> {
+    let mut out = Vec::new();
+    for count in [61u16, 62, 63] {
+        let ids: Vec<u32> = (0..count).map(|port| group_id(0, vlan, port)).collect();
+        let kind = rng.pick(&[3, 4]);
+        let command = Command {
+            code: 7,
+            fields: vec![
+                f(
+                    field::GROUP_ID,
+                    group_id(kind, vlan, 900 + count).to_le_bytes(),
+                ),
+                f(field::GROUP_COUNT, count.to_le_bytes()),
+                f(field::GROUP_IDS, member_list(&ids)),
+            ],
+        };
+        out.push(command.payload());
+    }
+    out
+}
+
+/// Adds that fill the flows up, and a few more.
+pub fn flow_fillers(rng: &mut Rng, tables: &Tables) -> Vec<Vec<u8>> {
+    let missing = 256usize.saturating_sub(tables.flows.len());
+    (0..missing as u64 + 3)
+        .map(|at| {
+            let table = rng.pick(&[0, 10, 50]);
+            flow(rng, tables, 3, 0x1_0000 + at, table).payload()
+        })
+        .collect()
+}
+
+/// Adds that fill the groups up, and a few more.
+pub fn group_fillers(rng: &mut Rng, tables: &Tables) -> Vec<Vec<u8>> {
+    let missing = 128usize.saturating_sub(tables.groups.len());
+    (0..missing as u16 + 3)
+        .map(|at| {
+            let kind = rng.pick(&[3, 4]);
+            let id = group_id(kind, vlan(rng), 1_000 + at);
+            group(rng, tables, 7, id).payload()
+        })
+        .collect()
+}
+
+pub fn some_ports(rng: &mut Rng) -> u64 {
+    let any = rng.range(1, 62);
+    rng.pick(&[1, 2, 4, 4, 8, 61, 62, any])
+}

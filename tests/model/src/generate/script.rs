@@ -1,0 +1,1273 @@
+//! Scripts of calls for the console.
+
+use super::commands::*;
+use super::Rng;
+use crate::console::{hex, Console};
+use crate::device::Device;
+use crate::registers::Ring;
+use crate::tables::{field, Match, Tables};
+use std::fmt::Write as _;
+
+const CONTROL: u64 = 0x300;
+const ENABLE: u64 = 0x318;
+const BASE: u64 = 0x1000;
+const SIZE: u64 = 0x1008;
+const HEAD: u64 = 0x100c;
+const CTRL: u64 = 0x1014;
+const CREDITS: u64 = 0x1018;
+
+/// Seeds whose scripts end with a run up to the limit of the credits.
+const CREDIT_SEEDS: u64 = 32;
+
+pub fn script(seed: u64, calls: u64) -> String {
+    let mut maker = Script {
+        rng: Rng::new(seed),
+        console: Console::default(),
+        out: format!("# calls, seed {seed}\n"),
+        calls: 0,
+        limit: calls,
+        next_buffer: 0,
+    };
+    maker.start();
+    while maker.calls < calls {
+        maker.scene();
+    }
+    if seed % CREDIT_SEEDS == CREDIT_SEEDS - 1 {
+        maker.credit_limit();
+    }
+    maker.out
+}
+
+struct Script {
+    rng: Rng,
+    console: Console,
+    out: String,
+    calls: u64,
+    limit: u64,
+    /// Where the next payload goes, so that waiting ones are not written over.
+    next_buffer: u64,
+}
+
+impl Script {
+    /// Writes a line down and carries it out; the answer is its first word.
+    fn call(&mut self, line: &str) -> Option<u64> {
+        let outcome = self.console.line(line.as_bytes());
+        self.out.push_str(line);
+        self.out.push('\n');
+        self.calls += 1;
+        outcome.ok()??.split(' ').next()?.parse().ok()
+    }
+
+    fn device(&self) -> Device {
+        // Every script begins with an accepted fresh.
+        self.console.device.clone().expect("a device is there")
+    }
+
+    fn tables(&self) -> Tables {
+        self.device().tables
+    }
+
+    fn ports(&self) -> u64 {
+        self.console
+            .device
+            .as_ref()
+            .map_or(1, |d| u64::from(d.registers.ports))
+    }
+
+    fn ring(&self) -> Ring {
+        self.console
+            .device
+            .as_ref()
+            .map(|d| d.registers.ring)
+            .unwrap_or_default()
+    }
+
+    fn memory(&self) -> u64 {
+        self.console.memory.len() as u64
+    }
+
+    fn left(&self) -> u64 {
+        self.limit.saturating_sub(self.calls)
+    }
+
+    fn number(&mut self, value: u64) -> String {
+        if self.rng.chance(50) {
+            format!("{value:#x}")
+        } else {
+            value.to_string()
+        }
+    }
+
+    fn write(&mut self, width: u64, offset: u64, value: u64) -> Option<u64> {
+        let value = self.number(value);
+        self.call(&format!("write {width} {offset:#x} {value}"))
+    }
+
+    fn read(&mut self, width: u64, offset: u64) {
+        self.call(&format!("read {width} {offset:#x}"));
+    }
+
+    fn poke(&mut self, address: u64, bytes: &[u8]) {
+        self.call(&format!("poke {address:#x} {}", hex(bytes)));
+    }
+
+    // -- beginnings
+
+    fn start(&mut self) {
+        if self.rng.chance(30) {
+            // Calls that come too early.
+            let early = [
+                "read 4 0",
+                "work 6",
+                "header 6",
+                "link 1 1",
+                "frame 1 -",
+                "peek 0 0",
+            ];
+            for line in early {
+                self.call(line);
+            }
+        }
+        self.new_memory();
+        if self.rng.chance(20) {
+            let bad = self
+                .rng
+                .pick(&["0", "63", "64", "0x100000004", "18446744073709551615"]);
+            self.call(&format!("fresh {bad} 1"));
+            self.call("read 4 0x304");
+        }
+        self.new_device();
+    }
+
+    fn new_memory(&mut self) {
+        let size = match self.rng.range(0, 9) {
+            0..=5 => 32_768,
+            6 | 7 => self.rng.range(20_000, 65_536),
+            8 => 262_144,
+            _ => 1_048_576,
+        };
+        self.call(&format!("memory {size}"));
+    }
+
+    fn new_device(&mut self) {
+        let ports = some_ports(&mut self.rng);
+        let id = self.rng.next();
+        self.call(&format!("fresh {ports} {id:#x}"));
+        self.open_ports(90);
+        self.new_ring();
+    }
+
+    /// Brings ports up and enables them, each with the given chance.
+    fn open_ports(&mut self, percent: u64) {
+        let ports = self.ports();
+        for port in 1..=ports {
+            let up = u64::from(self.rng.chance(percent));
+            let now = self
+                .console
+                .device
+                .as_ref()
+                .map_or(0, |d| d.registers.links >> port & 1);
+            if up != now {
+                self.call(&format!("link {port} {up}"));
+            }
+        }
+        let mut bits = 0u64;
+        for port in 0..64 {
+            bits |= u64::from(self.rng.chance(percent)) << port;
+        }
+        self.write_wide(ENABLE, bits);
+    }
+
+    /// One write of 8 bytes, or two halves.
+    fn write_wide(&mut self, offset: u64, value: u64) {
+        if self.rng.chance(60) {
+            self.write(8, offset, value);
+        } else {
+            let noise = if self.rng.chance(50) { 0xabcd << 32 } else { 0 };
+            self.write(4, offset, value & 0xffff_ffff | noise);
+            self.write(4, offset + 4, value >> 32 | noise);
+        }
+    }
+
+    fn new_ring(&mut self) {
+        let size = match self.rng.range(0, 19) {
+            0..=3 => 2,
+            4..=7 => 4,
+            8..=12 => 8,
+            13..=16 => 16,
+            17 => 32,
+            18 => 128,
+            _ => 256,
+        };
+        let last = (self.memory().saturating_sub(32 * size) / 16).max(1);
+        let base = self.rng.range(0, last) * 8;
+        if self.rng.chance(50) {
+            self.write_wide(BASE, base);
+            self.write(4, SIZE, size);
+        } else {
+            self.write(4, SIZE, size);
+            self.write_wide(BASE, base);
+        }
+        self.next_buffer = base + 32 * size;
+    }
+
+    /// A ring that stands in memory with room to spare.
+    fn sound_ring(&mut self) {
+        if self.memory() < 20_000 {
+            self.new_memory();
+        }
+        let ring = self.ring();
+        let end = u128::from(ring.base.value) + 32 * u128::from(ring.size);
+        if ring.size < 2 || end + 8_192 > u128::from(self.memory()) {
+            self.new_ring();
+        }
+    }
+
+    // -- slots
+
+    /// A place for a payload, behind the ring and behind those still waiting.
+    fn buffer(&mut self, length: usize) -> u64 {
+        let ring = self.ring();
+        let end = (ring.base.value + 32 * u64::from(ring.size)).div_ceil(8) * 8;
+        let length = length as u64;
+        if self.next_buffer < end || self.next_buffer + length > self.memory() {
+            self.next_buffer = end;
+        }
+        let at = self.next_buffer;
+        self.next_buffer = (at + length).div_ceil(8) * 8;
+        at
+    }
+
+    fn descriptor(&mut self, address: u64, buf_size: u16, tlv_size: u16) -> Vec<u8> {
+        let quiet = self.rng.chance(50);
+        let mut bytes = if quiet {
+            vec![0; 32]
+        } else {
+            self.rng.bytes(32)
+        };
+        bytes[..8].copy_from_slice(&address.to_le_bytes());
+        bytes[16..18].copy_from_slice(&buf_size.to_le_bytes());
+        bytes[18..20].copy_from_slice(&tlv_size.to_le_bytes());
+        bytes
+    }
+
+    fn slot_address(&self, slot: u32) -> u64 {
+        self.ring().base.value + 32 * u64::from(slot)
+    }
+
+    /// The slot that lies `ahead` of HEAD.
+    fn slot(&self, ahead: u32) -> u32 {
+        let ring = self.ring();
+        (ring.head + ahead) % ring.size
+    }
+
+    fn stage(&mut self, ahead: u32, payload: &[u8]) {
+        let length = payload.len() as u16;
+        let extra = if self.rng.chance(80) {
+            0
+        } else {
+            self.rng.range(1, 40) as u16
+        };
+        let address = self.buffer(payload.len() + usize::from(extra));
+        self.poke(address, payload);
+        let descriptor = self.descriptor(address, length + extra, length);
+        let at = self.slot_address(self.slot(ahead));
+        self.poke(at, &descriptor);
+    }
+
+    /// Posts payloads, several at a time where the ring has room, and works.
+    fn run(&mut self, payloads: &[Vec<u8>]) {
+        self.sound_ring();
+        let mut rest = payloads;
+        while !rest.is_empty() {
+            let ring = self.ring();
+            let free = u64::from(ring.size - 1 - ring.outstanding());
+            if free == 0 {
+                self.drain();
+                if self.ring().outstanding() > 0 {
+                    self.new_ring();
+                }
+                continue;
+            }
+            let most = free.min(rest.len() as u64).min(40);
+            let count = if self.rng.chance(70) {
+                most
+            } else {
+                self.rng.range(1, most)
+            };
+            for (ahead, payload) in rest[..count as usize].iter().enumerate() {
+                self.stage(ahead as u32, payload);
+            }
+            let new = self.slot(count as u32);
+            self.write(4, HEAD, u64::from(new));
+            rest = &rest[count as usize..];
+            if self.rng.chance(85) {
+                self.drain();
+            }
+        }
+    }
+
+    /// The length of the line that the next work call would write.
+    fn line_length(&self) -> Option<usize> {
+        let mut memory = self.console.memory.clone();
+        let mut room = vec![0; 65_536];
+        self.device()
+            .work(&mut memory, &mut room)
+            .ok()
+            .map(|done| done.length)
+    }
+
+    /// One work call, now and then with a room that only just does or does not.
+    fn work(&mut self) -> Option<u64> {
+        if self.rng.chance(8) {
+            if let Some(length) = self.line_length() {
+                let short = self.rng.pick(&[length - 1, length - 1, 5, 0]);
+                self.call(&format!("work {}", short.min(length - 1)));
+                return self.call(&format!("work {length}"));
+            }
+        }
+        let room = if self.rng.chance(95) { 4_102 } else { 65_536 };
+        self.call(&format!("work {room}"))
+    }
+
+    /// Works until nothing is left, then returns some credits.
+    fn drain(&mut self) {
+        for _ in 0..=self.ring().outstanding() {
+            match self.work() {
+                Some(0) => {
+                    if self.rng.chance(5) {
+                        let at = self.slot_address((self.ring().tail.max(1)) - 1);
+                        self.call(&format!("peek {at:#x} 32"));
+                    }
+                }
+                Some(4) => self.return_credits(),
+                _ => break,
+            }
+        }
+        if self.rng.chance(40) {
+            self.return_credits();
+        }
+    }
+
+    fn return_credits(&mut self) {
+        let credits = u64::from(self.ring().credits);
+        let some = self.rng.range(0, credits);
+        let value = self
+            .rng
+            .pick(&[credits, credits, some, some, credits + 1, 0, 1]);
+        self.write(4, CREDITS, value);
+        if self.rng.chance(30) {
+            self.read(4, CREDITS);
+        }
+    }
+
+    // -- scenes
+
+    fn scene(&mut self) {
+        match self.rng.range(0, 199) {
+            0..=59 => self.commands(),
+            60..=99 => self.frames(),
+            100..=117 => self.probe(),
+            118..=125 => self.halves(),
+            126..=131 => self.new_ring(),
+            132..=141 => self.ports_change(),
+            142..=146 => self.odd_lines(),
+            147..=152 => self.network(),
+            153..=157 => self.ties(),
+            158..=164 => self.overlap(),
+            165..=171 => self.refused_work(),
+            172..=174 => self.header(),
+            175..=183 => self.faulty_descriptors(),
+            184..=187 => self.heads(),
+            188 => self.reset(),
+            189 => self.outside(),
+            190..=191 if self.left() > 900 => {
+                let tables = self.tables();
+                let fillers = flow_fillers(&mut self.rng, &tables);
+                self.run(&fillers);
+                self.commands();
+                self.frames();
+            }
+            192..=193 if self.left() > 500 => {
+                let tables = self.tables();
+                let fillers = group_fillers(&mut self.rng, &tables);
+                self.run(&fillers);
+                self.commands();
+            }
+            194..=195 if self.left() > 400 => self.flood(),
+            196 if self.left() > 100 => {
+                if self.rng.chance(50) {
+                    self.new_memory();
+                }
+                self.new_device();
+            }
+            197..=198 => self.thin_out(),
+            _ => self.return_credits(),
+        }
+    }
+
+    fn commands(&mut self) {
+        let count = self.rng.range(1, 6);
+        let tables = self.tables();
+        let payloads: Vec<Vec<u8>> = (0..count)
+            .map(|_| any_payload(&mut self.rng, &tables, 72))
+            .collect();
+        self.run(&payloads);
+    }
+
+    /// Deletes some of what is live, so that tables do not stay full.
+    fn thin_out(&mut self) {
+        let tables = self.tables();
+        let mut payloads = Vec::new();
+        for cookie in tables.flows.keys() {
+            if self.rng.chance(30) {
+                payloads.push(top(
+                    5,
+                    &encode(&[f(field::COOKIE, cookie.to_le_bytes())], 0, 0),
+                ));
+            }
+        }
+        for id in tables.groups.keys() {
+            if self.rng.chance(20) {
+                payloads.push(top(
+                    9,
+                    &encode(&[f(field::GROUP_ID, id.to_le_bytes())], 0, 0),
+                ));
+            }
+        }
+        self.rng.shuffle(&mut payloads);
+        payloads.truncate(self.left() as usize / 4 + 1);
+        self.run(&payloads);
+    }
+
+    fn frames(&mut self) {
+        for _ in 0..self.rng.range(1, 8) {
+            let (mut port, mut frame) = self.frame();
+            // Most frames match nothing, so some of these are thrown away.
+            for _ in 0..6 {
+                let copies = self.device().frame(u64::from(port), &frame, &mut [0; 186]);
+                if copies != Ok(0) || self.rng.chance(15) {
+                    break;
+                }
+                (port, frame) = self.frame();
+            }
+            self.send(u64::from(port), frame);
+        }
+    }
+
+    /// A frame that is likely to match what is live.
+    fn frame(&mut self) -> (u32, Vec<u8>) {
+        let tables = self.tables();
+        let ways: Vec<(u32, u16, u16)> = tables
+            .flows
+            .values()
+            .filter_map(|flow| match flow.matching {
+                Match::Vlan {
+                    port,
+                    vlan,
+                    new_vlan,
+                } => Some((port, vlan, new_vlan.unwrap_or(vlan))),
+                _ => None,
+            })
+            .collect();
+        let (port, tag, inner) = if !ways.is_empty() && self.rng.chance(88) {
+            self.rng.pick(&ways)
+        } else {
+            let vlan = self.rng.pick(&[0, 1, 2, 7, 100, 4094, 4095]);
+            (self.rng.range(1, self.ports()) as u32, vlan, vlan)
+        };
+        let macs: Vec<[u8; 6]> = tables
+            .flows
+            .values()
+            .filter_map(|flow| match flow.matching {
+                Match::Bridge { vlan, mac, .. } if vlan == inner => mac,
+                _ => None,
+            })
+            .collect();
+        let mut mac = if !macs.is_empty() && self.rng.chance(80) {
+            self.rng.pick(&macs)
+        } else {
+            self.rng.pick(&MACS)
+        };
+        if self.rng.chance(4) {
+            mac[self.rng.index(6)] ^= 1;
+        }
+        let mut frame = mac.to_vec();
+        frame.extend(self.rng.bytes(6));
+        if tag != 0 || self.rng.chance(20) {
+            frame.extend([0x81, 0x00]);
+            let bits = self.rng.pick(&[0u16, 0, 0x1000, 0xe000, 0xf000]);
+            frame.extend((tag | bits).to_be_bytes());
+        }
+        let inner_type = self
+            .rng
+            .pick(&[[0x08, 0x00], [0x86, 0xdd], [0x88, 0xa8], [0x81, 0x01]]);
+        frame.extend(inner_type);
+        let body = self.rng.range(0, 50) as usize;
+        frame.extend(self.rng.bytes(body));
+        (port, frame)
+    }
+
+    /// The frame call, now and then with a fault.
+    fn send(&mut self, mut port: u64, mut frame: Vec<u8>) {
+        let mut list = String::new();
+        match self.rng.range(0, 59) {
+            0 => frame.truncate(13),
+            1 => frame.truncate(14),
+            2 => frame.truncate(17),
+            3 => frame.truncate(18),
+            4 => frame.resize(9_216, 0x55),
+            5 => frame.resize(9_217, 0x55),
+            6 => frame.clear(),
+            7 => port = 0,
+            8 => port = self.ports() + 1,
+            9 => port |= 1 << 32,
+            10 => list = " 185".to_string(),
+            11 => list = " 186".to_string(),
+            12 => list = " 512".to_string(),
+            13 => list = " 0".to_string(),
+            14 => {
+                // Several at once.
+                frame.truncate(self.rng.range(0, 20) as usize);
+                port = self.rng.range(0, self.ports() + 1);
+                list = self.rng.pick(&["", " 185"]).to_string();
+            }
+            _ => {}
+        }
+        self.call(&format!("frame {port} {}{list}", hex(&frame)));
+    }
+
+    /// Reads and writes anywhere, most of them where something stands.
+    fn probe(&mut self) {
+        for _ in 0..self.rng.range(1, 8) {
+            let named = [
+                0x0, 0x4, 0x8, 0xc, 0x10, 0x14, 0x18, 0x1c, 0x20, 0x300, 0x304, 0x308, 0x30c,
+                0x310, 0x314, 0x318, 0x31c, 0x320, 0x324, 0x328, 0x1000, 0x1004, 0x1008, 0x100c,
+                0x1010, 0x1014, 0x1018, 0x101c, 0x1020, 0x1ff8, 0x1ffc, 0x2000, 0x2004,
+            ];
+            let mut offset = match self.rng.range(0, 9) {
+                0..=6 => self.rng.pick(&named),
+                7 => self.rng.range(0, 0x7ff) * 4,
+                8 => self.rng.range(0, 0x2008),
+                _ => self
+                    .rng
+                    .pick(&[1 << 32, 0x1_0000_0010, u64::MAX, u64::MAX - 3, u64::MAX - 7]),
+            };
+            let mut width = if self.rng.chance(65) { 4 } else { 8 };
+            match self.rng.range(0, 19) {
+                0 => {
+                    width = self
+                        .rng
+                        .pick(&[0, 1, 2, 3, 5, 6, 7, 12, 16, 0x1_0000_0004, 1 << 63])
+                }
+                1 => offset = offset.wrapping_add(self.rng.range(1, 7)),
+                _ => {}
+            }
+            if self.rng.chance(50) {
+                self.read(width, offset);
+                continue;
+            }
+            let value = match self.rng.range(0, 5) {
+                0 => self.rng.next(),
+                1 => self.rng.range(0, 20),
+                2 => 1 << self.rng.range(0, 63),
+                3 => self
+                    .rng
+                    .pick(&[0, 2, 3, 6, 65_535, 65_536, 65_537, 131_072, 1 << 32]),
+                4 => self.rng.next() << 3,
+                _ => self.rng.pick(&[
+                    u64::MAX,
+                    0x8000_0001,
+                    0xffff_fffe,
+                    0xffff_ffff,
+                    0x8000_0000_8000_0001,
+                ]),
+            };
+            // Resets are rare, or nothing would ever be built up.
+            let resets = [CONTROL, CTRL].contains(&offset) && value & 1 == 1;
+            let value = if resets && self.rng.chance(85) {
+                value & !1
+            } else {
+                value
+            };
+            self.write(width, offset, value);
+            if self.rng.chance(40) {
+                self.read(width, offset);
+            }
+        }
+        let ring = self.ring();
+        if ring.size > 0 && ring.base.value > self.memory() && self.rng.chance(80) {
+            self.new_ring();
+        }
+    }
+
+    /// The lower halves of all holds, something that may clear them, and the
+    /// upper halves, the last of which show what was held.
+    fn holds(&mut self) {
+        let mut places = [0x18, ENABLE, BASE];
+        self.rng.shuffle(&mut places);
+        for place in places {
+            let low = self.rng.pick(&[8, 0x1e, 0x40, 0xffff_fff8, 0x2_0000_0030]);
+            self.write(4, place, low);
+        }
+        match self.rng.range(0, 19) {
+            0..=2 => drop(self.write(4, CTRL, 1)),
+            3..=4 => drop(self.write(4, CONTROL, 1)),
+            5..=8 => {
+                // Refused twice, then the lower half that was held is wanted.
+                let odd = self.rng.pick(&[4, 12, 0x101, 0xffff_ffff]);
+                self.write(4, BASE, odd);
+                self.write(4, BASE + 4, 0);
+                self.write(8, BASE, odd + 1);
+                self.write(4, BASE + 4, 1);
+                self.read(8, BASE);
+            }
+            9..=12 => {
+                let place = self.rng.pick(&places);
+                self.write(8, place, 0x50);
+            }
+            13 => drop(self.write(4, SIZE, 8)),
+            14 => drop(self.write(4, CTRL, 2)),
+            _ => {}
+        }
+        self.rng.shuffle(&mut places);
+        for high in [0, 1] {
+            for place in places {
+                self.write(4, place + 4, high);
+                self.read(8, place);
+            }
+        }
+        self.open_ports(92);
+        self.new_ring();
+    }
+
+    /// Half writes of the 64-bit registers, interleaved with one another.
+    fn halves(&mut self) {
+        if self.rng.chance(50) {
+            return self.holds();
+        }
+        let places = [0x18, 0x318, BASE, 0x310, 0x320];
+        for _ in 0..self.rng.range(3, 10) {
+            let place = self.rng.pick(&places);
+            let low = self.rng.pick(&[
+                0,
+                8,
+                64,
+                0x100,
+                12,
+                0xffff_fff8,
+                0xffff_ffff,
+                0x1e,
+                0x7_0000_0040,
+            ]);
+            match self.rng.range(0, 6) {
+                0..=2 => self.write(4, place, low),
+                3 | 4 => {
+                    let high = self.rng.pick(&[0, 0, 0, 1, 0xffff_ffff, 0x3_0000_0000]);
+                    self.write(4, place + 4, high)
+                }
+                5 => {
+                    let value = self
+                        .rng
+                        .pick(&[0, 8, 0x80, 13, u64::MAX, u64::MAX - 7, 0x1e]);
+                    self.write(8, place, value)
+                }
+                _ => {
+                    let value = self.rng.pick(&[0, 2, 4]);
+                    self.write(4, CTRL, value)
+                }
+            };
+            if self.rng.chance(50) {
+                let (width, half) = self.rng.pick(&[(8, 0), (4, 0), (4, 4)]);
+                self.read(width, place + half);
+            }
+        }
+        for offset in [HEAD, HEAD + 4, CREDITS] {
+            self.read(4, offset);
+        }
+        if self.rng.chance(70) {
+            self.new_ring();
+            self.open_ports(92);
+        }
+    }
+
+    /// Every kind of HEAD, both where work waits and where none does.
+    fn heads(&mut self) {
+        self.sound_ring();
+        if self.rng.chance(20) {
+            // The largest ring does not fit into any memory here.
+            self.write(4, SIZE, 65_536);
+            self.write(4, HEAD, 65_535);
+            self.write(4, HEAD, 65_536);
+            self.call("work 4102");
+            self.new_ring();
+        }
+        for _ in 0..self.rng.range(3, 8) {
+            let size = u64::from(self.ring().size);
+            let head = u64::from(self.ring().head);
+            let tail = u64::from(self.ring().tail);
+            let any = self.rng.range(0, size);
+            let new = self.rng.pick(&[
+                any,
+                any,
+                head,
+                tail,
+                (tail + size - 1) % size,
+                size,
+                head + 1,
+            ]);
+            self.write(4, HEAD, new);
+            if self.rng.chance(40) {
+                self.read(4, HEAD);
+            }
+            if self.rng.chance(30) {
+                self.work();
+            }
+        }
+        self.drain();
+    }
+
+    fn ports_change(&mut self) {
+        match self.rng.range(0, 5) {
+            0 | 1 => {
+                let port = self.rng.range(1, self.ports());
+                let up = self.rng.range(0, 1);
+                self.call(&format!("link {port} {up}"));
+            }
+            2 => {
+                let over = self.ports() + 1;
+                let port = self.rng.pick(&[0, over, 63, 64, 1 << 32 | 1, u64::MAX]);
+                self.call(&format!("link {port} 1"));
+            }
+            3 => self.open_ports(75),
+            4 => self.open_ports(100),
+            _ => {
+                let bits = self.rng.next() | self.rng.next();
+                self.write_wide(ENABLE, bits);
+            }
+        }
+        self.read(8, 0x310);
+        self.read(8, ENABLE);
+        self.frames();
+    }
+
+    /// Lines that are no calls, and calls that are written in other ways.
+    fn odd_lines(&mut self) {
+        let long = format!("poke 0 {}", "00".repeat(32_764));
+        assert_eq!(long.len(), 65_535);
+        let end = self.memory();
+        let lines = [
+            "".to_string(),
+            "# passed over".to_string(),
+            " ".to_string(),
+            " read 4 0".to_string(),
+            "read 4 0 ".to_string(),
+            "read  4 0".to_string(),
+            "read\t4 0".to_string(),
+            "read 4".to_string(),
+            "read 4 0 0".to_string(),
+            "READ 4 0".to_string(),
+            "read +4 0".to_string(),
+            "read -4 0".to_string(),
+            "read 4 0x".to_string(),
+            "read 4 0X10".to_string(),
+            "read 4 0xg".to_string(),
+            "read 4 0x1F0".to_string(),
+            "read 04 0x00000000000000000010".to_string(),
+            "read 4 18446744073709551616".to_string(),
+            "read 4 0x10000000000000000".to_string(),
+            "read 4 18446744073709551615".to_string(),
+            "read 1e1 0".to_string(),
+            "write 4 0x10".to_string(),
+            "write 4 0x10 18446744073709551616".to_string(),
+            "work".to_string(),
+            "work 65537".to_string(),
+            "work -".to_string(),
+            "header 65537".to_string(),
+            "link 1 2".to_string(),
+            "link 1".to_string(),
+            "frame 1".to_string(),
+            "frame 1 0".to_string(),
+            "frame 1 0g".to_string(),
+            "frame 1 00 513".to_string(),
+            "frame 1 00 186 1".to_string(),
+            "fresh 4".to_string(),
+            "fresh 4 18446744073709551616".to_string(),
+            "memory 1048577".to_string(),
+            "memory -1".to_string(),
+            format!("peek {end} 0"),
+            format!("peek {end} 1"),
+            format!("peek {} 0", end + 1),
+            format!("peek {} 1", end - 1),
+            "peek 18446744073709551615 1".to_string(),
+            "peek 1 18446744073709551615".to_string(),
+            format!("poke {end} -"),
+            format!("poke {} -", end + 1),
+            format!("poke {} 0000", end - 1),
+            "poke 0 000".to_string(),
+            "poke 0".to_string(),
+            "poke 0 --".to_string(),
+            format!("{long}0"),
+            format!("#{long}"),
+            "nothing".to_string(),
+            "read 4 0 # not a comment".to_string(),
+        ];
+        for _ in 0..self.rng.range(1, 4) {
+            let line = self.rng.pick(&lines);
+            self.call(&line);
+        }
+        if self.rng.chance(5) && self.memory() > 100_000 {
+            self.call(&long);
+        }
+    }
+
+    /// A VLAN whose ports, groups and flows hang together.
+    fn network(&mut self) {
+        if self.rng.chance(60) {
+            self.open_ports(95);
+        }
+        let tables = self.tables();
+        let ports = tables.ports as u16;
+        let vlan = vlan(&mut self.rng);
+        let mut payloads = Vec::new();
+        let mut members = Vec::new();
+        for _ in 0..self.rng.range(2, 6) {
+            let id = group_id(0, vlan, self.rng.range(0, u64::from(ports)) as u16);
+            if !members.contains(&id) {
+                members.push(id);
+            }
+            payloads.push(group(&mut self.rng, &tables, 7, id).payload());
+        }
+        let flood = group_id(4, vlan, self.rng.range(0, 2) as u16);
+        let multicast = group_id(3, vlan, self.rng.range(0, 2) as u16);
+        for id in [flood, multicast] {
+            self.rng.shuffle(&mut members);
+            let mut command = group(&mut self.rng, &tables, 7, id);
+            command.set(field::GROUP_COUNT, (members.len() as u16).to_le_bytes());
+            command.set(field::GROUP_IDS, member_list(&members));
+            payloads.push(command.payload());
+        }
+        for _ in 0..3 {
+            let port = self.rng.range(1, u64::from(ports)) as u32;
+            let mut command = flow(&mut self.rng, &tables, 3, 0, 10);
+            command.set(field::COOKIE, cookie(&mut self.rng).to_le_bytes());
+            command.set(field::IN_PPORT, port.to_le_bytes());
+            command.set(field::GOTO_TBL, 20u16.to_le_bytes());
+            command
+                .fields
+                .retain(|field| field.kind != field::NEW_VLAN_ID);
+            if self.rng.chance(50) {
+                command.set(field::VLAN_ID, vlan.to_be_bytes());
+            } else {
+                command.set(field::VLAN_ID, [0, 0]);
+                command.set(field::NEW_VLAN_ID, vlan.to_be_bytes());
+            }
+            payloads.push(command.payload());
+        }
+        let unicast = self.rng.pick(&members);
+        for (mac, id) in [
+            (None, flood),
+            (Some(MACS[3]), multicast),
+            (Some(MACS[4]), flood),
+            (Some(MACS[0]), unicast),
+        ] {
+            let mut command = flow(&mut self.rng, &tables, 3, 0, 50);
+            command.fields.retain(|field| field.kind != field::DST_MAC);
+            command.set(field::COOKIE, cookie(&mut self.rng).to_le_bytes());
+            command.set(field::VLAN_ID, vlan.to_be_bytes());
+            let goto = self.rng.pick(&[60u16, 60, 60, 60, 60, 0]);
+            command.set(field::GOTO_TBL, goto.to_le_bytes());
+            command.set(field::GROUP_ID, id.to_le_bytes());
+            if let Some(mac) = mac {
+                command.set(field::DST_MAC, mac);
+            }
+            payloads.push(command.payload());
+        }
+        self.run(&payloads);
+        self.drain();
+        self.frames();
+        self.frames();
+    }
+
+    /// Flows that match the same frames with the same priority, added in any
+    /// order, some with the lower cookie last.
+    fn ties(&mut self) {
+        let tables = self.tables();
+        let ports = u64::from(tables.ports);
+        let vlan = vlan(&mut self.rng);
+        let table = self.rng.pick(&[0, 10, 50, 50]);
+        let port = self.rng.range(1, ports) as u32;
+        let mut cookies: Vec<u64> = (0..self.rng.range(2, 5))
+            .map(|_| cookie(&mut self.rng))
+            .collect();
+        cookies.dedup();
+        let mut payloads = Vec::new();
+        for cookie in cookies {
+            let mut command = flow(&mut self.rng, &tables, 3, cookie, table);
+            let priority = self.rng.pick(&[5u32, 5, 5, 6, 0x8000_0005]);
+            command.set(field::PRIORITY, priority.to_le_bytes());
+            match table {
+                0 => {
+                    command.set(field::IN_PPORT, port.to_le_bytes());
+                    let goto = self.rng.pick(&[0u16, 10]);
+                    command.set(field::GOTO_TBL, goto.to_le_bytes());
+                }
+                10 => {
+                    let new = self.rng.pick(&VLANS);
+                    command.set(field::IN_PPORT, port.to_le_bytes());
+                    command.set(field::VLAN_ID, [0, 0]);
+                    command.set(field::NEW_VLAN_ID, new.to_be_bytes());
+                    let goto = self.rng.pick(&[0u16, 20, 20]);
+                    command.set(field::GOTO_TBL, goto.to_le_bytes());
+                }
+                _ => {
+                    let id = group_id(0, vlan, self.rng.range(0, ports) as u16);
+                    command.set(field::VLAN_ID, vlan.to_be_bytes());
+                    command.set(field::DST_MAC, MACS[1]);
+                    command.set(field::GROUP_ID, id.to_le_bytes());
+                    payloads.push(group(&mut self.rng, &tables, 7, id).payload());
+                }
+            }
+            payloads.push(command.payload());
+        }
+        if table != 0 {
+            let mut way = flow(&mut self.rng, &tables, 3, 900 + u64::from(port), 10);
+            way.fields.retain(|field| field.kind != field::NEW_VLAN_ID);
+            way.set(field::IN_PPORT, port.to_le_bytes());
+            way.set(field::VLAN_ID, vlan.to_be_bytes());
+            payloads.push(way.payload());
+        }
+        self.run(&payloads);
+        self.drain();
+        for tag in [0, vlan] {
+            let mut frame = MACS[1].to_vec();
+            frame.extend([2, 0, 0, 0, 0, 9]);
+            if tag != 0 {
+                frame.extend([0x81, 0]);
+                frame.extend(tag.to_be_bytes());
+            }
+            frame.extend([8, 0]);
+            self.call(&format!("frame {port} {}", hex(&frame)));
+        }
+        self.frames();
+    }
+
+    /// A payload that holds its own descriptor, whose stamp falls into it.
+    fn overlap(&mut self) {
+        self.sound_ring();
+        self.drain();
+        let ring = self.ring();
+        if ring.outstanding() > 0 || ring.size < 2 {
+            return;
+        }
+        let slot = self.slot(0);
+        let at = self.slot_address(slot);
+        let tables = self.tables();
+        let command = command(&mut self.rng, &tables).payload();
+        let stamp = self.rng.next() as u16;
+        let mut bytes = Vec::new();
+        if self.rng.chance(50) {
+            // The address reads as a type that is not listed, the cookie as the
+            // head of a TLV over the rest of the descriptor.
+            bytes.extend(at.to_le_bytes());
+            bytes.extend([99, 0, 0, 0, 16, 0, 0, 0]);
+            let length = (32 + command.len()) as u16;
+            bytes.extend(length.to_le_bytes());
+            bytes.extend(length.to_le_bytes());
+            bytes.extend([0; 10]);
+            bytes.extend(stamp.to_le_bytes());
+            bytes.extend(&command);
+            self.poke(at, &bytes);
+        } else {
+            // The payload stands before the descriptor and ends with it; the
+            // stamp is the pad of its last TLV.
+            if at < 8 + command.len() as u64 {
+                return;
+            }
+            let start = at - 8 - command.len() as u64;
+            let length = (command.len() + 8 + 32) as u16;
+            bytes.extend(&command);
+            bytes.extend([77, 0, 0, 0, 24, 0, 0, 0]);
+            bytes.extend(start.to_le_bytes());
+            bytes.extend([0; 8]);
+            bytes.extend(length.to_le_bytes());
+            bytes.extend(length.to_le_bytes());
+            bytes.extend([0; 4]);
+            bytes.extend([78, 0, 0, 0, 0, 0]);
+            bytes.extend(stamp.to_le_bytes());
+            self.poke(start, &bytes);
+        }
+        let new = self.slot(1);
+        self.write(4, HEAD, u64::from(new));
+        self.work();
+        self.call(&format!("peek {at:#x} 32"));
+        self.return_credits();
+    }
+
+    /// Work where none is, with rooms too short, with descriptors outside.
+    fn refused_work(&mut self) {
+        self.sound_ring();
+        self.drain();
+        match self.rng.range(0, 5) {
+            0 => {
+                self.call("work 0");
+                self.call("work 4102");
+            }
+            1 => {
+                // The end of the ring stands outside memory.
+                let size = self.rng.pick(&[2u64, 4, 8]);
+                let fit = self.rng.range(0, size - 1);
+                let short = self.rng.pick(&[8, 24, 32]);
+                let base = (self.memory() / 8 * 8).saturating_sub(32 * fit + 32 - short);
+                self.write_wide(BASE, base);
+                self.write(4, SIZE, size);
+                self.write(4, HEAD, size - 1);
+                for _ in 0..size {
+                    self.call("work 4102");
+                }
+                self.call("work 5");
+                self.new_ring();
+            }
+            2 => {
+                let base = self
+                    .rng
+                    .pick(&[u64::MAX - 7, u64::MAX - 31, 1 << 63, 1 << 32]);
+                self.write_wide(BASE, base);
+                self.write(4, HEAD, 1);
+                self.call("work 4102");
+                self.call("work 0");
+                self.read(8, BASE);
+                self.new_ring();
+            }
+            3 => {
+                // Work without a ring.
+                self.write(4, CTRL, 1);
+                self.call("work 4102");
+                self.write(4, HEAD, 0);
+                self.write(4, HEAD, 1);
+                self.new_ring();
+            }
+            4 => {
+                // The memory shrinks under waiting slots.
+                let tables = self.tables();
+                let payload = any_payload(&mut self.rng, &tables, 90);
+                self.stage(0, &payload);
+                let new = self.slot(1);
+                self.write(4, HEAD, u64::from(new));
+                let end = self.slot_address(self.slot(0)) + 32;
+                let cut = self.rng.pick(&[0, 1, 31]);
+                self.call(&format!("memory {}", end.saturating_sub(cut)));
+                self.call("work 4102");
+                self.call("work 3");
+                self.new_memory();
+                self.work();
+            }
+            _ => {
+                let tables = self.tables();
+                let payload = any_payload(&mut self.rng, &tables, 90);
+                self.stage(0, &payload);
+                let new = self.slot(1);
+                self.write(4, HEAD, u64::from(new));
+                let Some(length) = self.line_length() else {
+                    return;
+                };
+                for room in [0, 5, 6, length - 1] {
+                    if room < length {
+                        self.call(&format!("work {room}"));
+                    }
+                }
+                self.call(&format!("work {length}"));
+                self.call("work 0");
+            }
+        }
+    }
+
+    fn header(&mut self) {
+        let room = self.rng.pick(&[0, 1, 5, 6, 6, 7, 65_536]);
+        self.call(&format!("header {room}"));
+    }
+
+    /// Descriptors whose buffer or sizes are at fault, and the edges of these.
+    fn faulty_descriptors(&mut self) {
+        self.sound_ring();
+        for _ in 0..self.rng.range(1, 3) {
+            self.drain();
+            if self.ring().outstanding() > 0 {
+                return;
+            }
+            let end = self.memory();
+            let aligned = end / 8 * 8;
+            let tables = self.tables();
+            let payload = any_payload(&mut self.rng, &tables, 80);
+            let length = payload.len() as u16;
+            let buffer = self.buffer(4_200);
+            let rest = (end - aligned) as u16;
+            let (address, buf_size, tlv_size) = match self.rng.range(0, 15) {
+                0 => (buffer + self.rng.range(1, 7), length, length),
+                1 => (aligned, rest, rest),
+                2 => (aligned, rest + 1, 0),
+                3 => (aligned + 8, 0, 0),
+                4 => (u64::MAX - 7, self.rng.pick(&[0, 7, 8, 16, 0xffff]), 0),
+                5 => (1 << 32 | buffer, length, length),
+                6 => (buffer, length, length + 1),
+                7 => (buffer, 0, 1),
+                8 => (buffer, 4_096, 4_096),
+                9 => (buffer, 4_097, 4_097),
+                10 => (buffer, 4_096, 4_097),
+                11 => (buffer, 5_000, length),
+                12 => (0, end.min(65_535) as u16, end.min(65_535) as u16),
+                13 => (aligned - 8, 8 + rest, 8),
+                14 => (buffer + 4, length, length + 1),
+                _ => (buffer, length, 0),
+            };
+            let mut bytes = payload.clone();
+            if buf_size == 4_096 && tlv_size == 4_096 {
+                // A payload of the greatest length: a command and one TLV that
+                // is skipped.
+                let skipped = 4_088usize.saturating_sub(bytes.len()) as u16;
+                bytes.extend([99, 0, 0, 0]);
+                bytes.extend(skipped.to_le_bytes());
+                bytes.extend([0, 0]);
+            }
+            self.poke(buffer, &bytes);
+            let descriptor = self.descriptor(address, buf_size, tlv_size);
+            let at = self.slot_address(self.slot(0));
+            self.poke(at, &descriptor);
+            let new = self.slot(1);
+            self.write(4, HEAD, u64::from(new));
+            self.work();
+            self.call(&format!("peek {at:#x} 32"));
+        }
+    }
+
+    /// The device or the ring is reset, and what is left is looked at.
+    fn reset(&mut self) {
+        let (offset, value) = self.rng.pick(&[
+            (CONTROL, 1),
+            (CTRL, 1),
+            (CTRL, 0xffff_ffff),
+            (CONTROL, 2),
+            (CTRL, 2),
+        ]);
+        self.write(4, offset, value);
+        for offset in [0x10, SIZE, HEAD, 0x1010, CREDITS, 0x304] {
+            self.read(4, offset);
+        }
+        for offset in [0x18, 0x310, ENABLE, 0x320, BASE] {
+            self.read(8, offset);
+        }
+        self.frames();
+        self.open_ports(92);
+    }
+
+    /// Memory that is gone, then back.
+    fn outside(&mut self) {
+        self.call("memory 0");
+        self.call("peek 0 0");
+        self.call("peek 0 1");
+        self.call("work 4102");
+        self.new_memory();
+    }
+
+    /// A flood of 62 members, which is the longest list there is.
+    fn flood(&mut self) {
+        self.new_memory();
+        self.call("fresh 62 7");
+        self.open_ports(100);
+        self.write(8, BASE, 64);
+        self.write(4, SIZE, 32);
+        self.next_buffer = 64 + 32 * 32;
+        let tables = self.tables();
+        let vlan = vlan(&mut self.rng);
+        let ingress = self.rng.range(1, 62) as u16;
+        let mut ids: Vec<u32> = (0..=62)
+            .filter(|port| *port != ingress)
+            .map(|port| group_id(0, vlan, port))
+            .collect();
+        let mut payloads: Vec<Vec<u8>> = Vec::new();
+        for id in &ids {
+            payloads.push(group(&mut self.rng, &tables, 7, *id).payload());
+        }
+        let kind = self.rng.pick(&[3, 4]);
+        let flood = group_id(kind, vlan, 0);
+        self.rng.shuffle(&mut ids);
+        let mut list = group(&mut self.rng, &tables, 7, flood);
+        list.set(field::GROUP_COUNT, (ids.len() as u16).to_le_bytes());
+        list.set(field::GROUP_IDS, member_list(&ids));
+        payloads.push(list.payload());
+        let mut way = flow(&mut self.rng, &tables, 3, 1, 10);
+        way.set(field::IN_PPORT, u32::from(ingress).to_le_bytes());
+        way.set(field::VLAN_ID, [0, 0]);
+        way.set(field::NEW_VLAN_ID, vlan.to_be_bytes());
+        way.set(field::GOTO_TBL, [20, 0]);
+        payloads.push(way.payload());
+        let mut bridge = flow(&mut self.rng, &tables, 3, 2, 50);
+        bridge.set(field::VLAN_ID, vlan.to_be_bytes());
+        bridge.set(field::DST_MAC, [0xff; 6]);
+        bridge.set(field::GROUP_ID, flood.to_le_bytes());
+        bridge.set(field::GOTO_TBL, [60, 0]);
+        payloads.push(bridge.payload());
+        self.run(&payloads);
+        self.drain();
+        let frame = format!("{}020000000009{}", "ff".repeat(6), "0800");
+        let ask = |script: &mut Self, list: &str| {
+            script.call(&format!("frame {ingress} {frame}{list}"));
+        };
+        ask(self, "");
+        ask(self, " 186");
+        ask(self, " 185");
+        for _ in 0..4 {
+            let port = self.rng.range(1, 62);
+            self.call(&format!("link {port} 0"));
+        }
+        ask(self, "");
+        self.open_ports(80);
+        ask(self, " 512");
+        let longest = longest_lists(&mut self.rng, vlan);
+        self.run(&longest);
+        self.frames();
+    }
+
+    /// Consumes slots without returning credits until no more are taken.
+    fn credit_limit(&mut self) {
+        let _ = writeln!(self.out, "# up to the limit of the credits");
+        self.call("memory 524288");
+        self.call("fresh 3 1");
+        self.write(4, SIZE, 16_384);
+        let mut waiting = 0;
+        for consumed in 0..65_536 {
+            if waiting == 0 {
+                // All that fits; the last round also leaves one slot over.
+                let tail = consumed % 16_384;
+                self.write(4, HEAD, (tail + 16_383) % 16_384);
+                waiting = 16_383;
+            }
+            self.call("work 6");
+            waiting -= 1;
+        }
+        self.read(4, CREDITS);
+        self.call("work 6");
+        self.call("work 0");
+        self.write(4, SIZE, 2);
+        self.call("work 6");
+        self.write(4, HEAD, 1);
+        self.call("work 6");
+        self.write(8, BASE, 1 << 40);
+        self.write(4, HEAD, 1);
+        self.call("work 6");
+        self.write(4, CREDITS, 65_537);
+        self.write(4, CREDITS, 0);
+        self.call("work 6");
+        self.write(4, CREDITS, 1);
+        self.call("work 6");
+        self.write(8, BASE, 0);
+        self.write(4, HEAD, 1);
+        self.call("work 5");
+        self.call("work 6");
+        self.write(4, HEAD, 0);
+        self.call("work 6");
+        self.write(4, CREDITS, 65_536);
+        self.call("work 6");
+        self.read(4, CREDITS);
+    }
+}

@@ -1,0 +1,143 @@
+//! Trails: valid, cut, with a spoiled header or a line that disagrees.
+
+use super::commands::*;
+use super::Rng;
+use crate::journal;
+use crate::tables::{Status, Tables};
+
+pub fn journal(seed: u64) -> Vec<u8> {
+    let mut rng = Rng::new(seed ^ 0x6a6f_7572_6e61_6c73);
+    let ports = some_ports(&mut rng) as u8;
+    let mut tables = Tables::empty(u32::from(ports));
+    let mut header = journal::header(ports).to_vec();
+    let mut lines: Vec<Vec<u8>> = Vec::new();
+    let size = rng.pick(&[2, 4, 8, 16, 1_024, 65_536]);
+    let count = match rng.range(0, 9) {
+        0 => 0,
+        1..=6 => rng.range(1, 12),
+        7 | 8 => rng.range(13, 80),
+        _ => rng.range(81, 200),
+    };
+    let mut payloads = Vec::new();
+    for _ in 0..count {
+        payloads.push(None);
+    }
+    if rng.chance(8) {
+        payloads.extend(flow_fillers(&mut rng, &tables).into_iter().map(Some));
+        payloads.extend(group_fillers(&mut rng, &tables).into_iter().map(Some));
+        rng.shuffle(&mut payloads);
+    }
+    for planned in payloads {
+        let slot = (lines.len() as u64 % size) as u16;
+        let fault = rng.pick(&[Status::Enxio, Status::Emsgsize, Status::Einval]);
+        lines.push(match planned {
+            None if rng.chance(10) => journal::line(fault.stamp(), slot, &[]),
+            None => {
+                let payload = any_payload(&mut rng, &tables, 70);
+                journal::line(tables.execute(&payload).stamp(), slot, &payload)
+            }
+            Some(payload) => journal::line(tables.execute(&payload).stamp(), slot, &payload),
+        });
+    }
+    let kind = rng.range(0, 99);
+    match kind {
+        // As the device wrote it, or with slots that nobody checks.
+        0..=29 => {}
+        30..=33 => {
+            for line in &mut lines {
+                line[4] = rng.next() as u8;
+                line[5] = rng.next() as u8;
+            }
+        }
+        34..=53 => return cut(&mut rng, &header, &lines),
+        54..=69 => spoil_header(&mut rng, &mut header),
+        _ => spoil_lines(&mut rng, &mut lines, &tables),
+    }
+    if kind >= 54 && rng.chance(15) {
+        // A second fault behind the first.
+        return cut(&mut rng, &header, &lines);
+    }
+    header.extend(lines.concat());
+    header
+}
+
+/// Cut in the header, in a line's head, in its payload, or between two lines.
+fn cut(rng: &mut Rng, header: &[u8], lines: &[Vec<u8>]) -> Vec<u8> {
+    let whole: Vec<u8> = [header, &lines.concat()[..]].concat();
+    let at = if lines.is_empty() || rng.chance(20) {
+        rng.range(0, 6) as usize
+    } else {
+        let at = rng.index(lines.len());
+        let start = 6 + lines[..at].iter().map(Vec::len).sum::<usize>();
+        match rng.range(0, 3) {
+            0 => start + rng.range(0, 5) as usize,
+            1 => start + 6,
+            2 => start + lines[at].len() - 1,
+            _ => start + rng.range(0, lines[at].len() as u64) as usize,
+        }
+    };
+    whole[..at].to_vec()
+}
+
+fn spoil_header(rng: &mut Rng, header: &mut Vec<u8>) {
+    let bit = 1 << rng.range(0, 7);
+    match rng.range(0, 6) {
+        0 => header[rng.index(3)] ^= bit,
+        1 => header[3] = rng.pick(&[0, 2, 0xff]),
+        2 => header[4] = rng.pick(&[1, 0xff]),
+        3 => header[3..5].copy_from_slice(&[0, 1]),
+        4 => header[5] = rng.pick(&[0, 63, 64, 255]),
+        5 => *header = vec![b'R', b'K', b'X', 9, 9, 0],
+        _ => header[3..6].copy_from_slice(&[2, 0, 63]),
+    }
+}
+
+/// Makes one line disagree, in one of the ways there are.
+fn spoil_lines(rng: &mut Rng, lines: &mut Vec<Vec<u8>>, tables: &Tables) {
+    if lines.is_empty() {
+        lines.push(journal::line(0x8000, 0, &[]));
+        return;
+    }
+    let at = rng.index(lines.len());
+    let payload = lines[at][6..].to_vec();
+    let codes = [0, 2, 6, 12, 17, 22, 90, 95, 1, 0x7fff].map(|code: u16| 0x8000 | code);
+    match rng.range(0, 12) {
+        0 => {
+            let code = rng.pick(&codes);
+            lines[at][..2].copy_from_slice(&code.to_le_bytes());
+        }
+        // Without bit 15, or with another high bit.
+        1 => lines[at][1] = 0,
+        2 => lines[at][1] |= 1 << rng.range(0, 6),
+        3 => lines[at] = journal::line(Status::Enxio.stamp(), 0, &payload),
+        4 => lines[at] = journal::line(Status::Emsgsize.stamp(), 0, &payload),
+        5 => lines[at] = journal::line(Status::Enxio.stamp(), 0, &[0; 8]),
+        6 | 7 => {
+            // Longer than any payload: TLVs that are skipped, whole or cut.
+            let length = rng.pick(&[4_096, 4_097, 4_104, 8_192, 65_528, 65_535]);
+            let command = command(rng, tables).payload();
+            let mut body = command;
+            body.extend([99, 0, 0, 0, 0, 0, 0, 0].repeat(8_192));
+            let code = rng.pick(&codes);
+            lines[at] = journal::line(code, 0, &body[..length]);
+            if rng.chance(30) {
+                let keep = rng.range(6, lines[at].len() as u64 - 1) as usize;
+                lines[at].truncate(keep);
+                lines.truncate(at + 1);
+            }
+        }
+        8 => drop(lines.remove(at)),
+        9 => lines.insert(at, lines[at].clone()),
+        10 => {
+            let other = rng.index(lines.len());
+            lines.swap(at, other);
+        }
+        11 => {
+            if let Some(byte) = (!payload.is_empty()).then(|| 6 + rng.index(payload.len())) {
+                lines[at][byte] ^= 1 << rng.range(0, 7);
+            }
+        }
+        // A length that is off by some bytes shifts all that follows.
+        _ => lines[at][2] ^= rng.pick(&[1, 2, 8, 0x80]),
+    }
+}

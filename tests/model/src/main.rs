@@ -1,0 +1,82 @@
+//! A second implementation of the device, to be compared with the first.
+
+mod console;
+mod device;
+mod frame;
+mod generate;
+mod journal;
+mod registers;
+mod tables;
+#[cfg(test)]
+mod tests;
+mod tlv;
+
+use std::io::{self, Read, Write};
+use std::process::ExitCode;
+
+const USAGE: &str = "usage: model console
+       model replay [FILE]
+       model execute
+       model generate SEED CALLS
+       model generate-journal SEED
+       model generate-payloads SEED COUNT";
+
+fn print(bytes: &[u8]) -> io::Result<()> {
+    let mut output = io::stdout().lock();
+    output.write_all(bytes)?;
+    output.flush()
+}
+
+fn replay(file: Option<&str>) -> io::Result<()> {
+    let mut trail = Vec::new();
+    match file {
+        Some(name) => trail = std::fs::read(name)?,
+        None => drop(io::stdin().lock().read_to_end(&mut trail)?),
+    }
+    print(journal::report(&trail).as_bytes())
+}
+
+fn main() -> ExitCode {
+    let arguments: Vec<String> = std::env::args().skip(1).collect();
+    let words: Vec<&str> = arguments.iter().map(String::as_str).collect();
+    let seeded =
+        |seed: &str, count: &str| Some((console::number(seed).ok()?, console::number(count).ok()?));
+    let done = match words[..] {
+        ["console"] => {
+            let mut console = console::Console::default();
+            console::run("console", |line| console.line(line))
+        }
+        ["execute"] => {
+            let mut execute = console::Execute::default();
+            console::run("execute", |line| execute.line(line))
+        }
+        ["replay"] => replay(None),
+        ["replay", file] => replay(Some(file)),
+        [what @ ("generate" | "generate-payloads"), seed, count] => match seeded(seed, count) {
+            Some((seed, count)) if what == "generate" => {
+                print(generate::script(seed, count).as_bytes())
+            }
+            Some((seed, count)) => print(generate::payloads(seed, count).as_bytes()),
+            None => return usage(),
+        },
+        ["generate-journal", seed] => match console::number(seed) {
+            Ok(seed) => print(&generate::journal(seed)),
+            Err(_) => return usage(),
+        },
+        _ => return usage(),
+    };
+    match done {
+        Ok(()) => ExitCode::SUCCESS,
+        // Whoever reads the output may stop early.
+        Err(error) if error.kind() == io::ErrorKind::BrokenPipe => ExitCode::SUCCESS,
+        Err(error) => {
+            eprintln!("model: {error}");
+            ExitCode::from(2)
+        }
+    }
+}
+
+fn usage() -> ExitCode {
+    eprintln!("{USAGE}");
+    ExitCode::from(2)
+}

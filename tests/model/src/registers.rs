@@ -1,0 +1,568 @@
+//! The register space: which accesses are allowed, what they show and do.
+
+/// Why a call of the device was refused; the number is the answer.
+#[derive(Clone, Copy, Debug, PartialEq, Eq)]
+pub enum Refusal {
+    Access = 1,
+    Value = 2,
+    Idle = 3,
+    Credits = 4,
+    Descriptor = 5,
+    Room = 6,
+    Port = 7,
+    Frame = 8,
+    List = 9,
+}
+
+impl Refusal {
+    pub fn number(self) -> u64 {
+        self as u64
+    }
+}
+
+/// The end of the register space.
+const SPACE: u128 = 0x2000;
+
+/// What each four bytes of the first 16 show.
+const BOGUS: u32 = 0xDEAD_BABE;
+
+/// The registers of 4 bytes.
+#[derive(Clone, Copy, Debug, PartialEq, Eq)]
+enum Narrow {
+    Test,
+    Control,
+    PortCount,
+    Size,
+    Head,
+    Tail,
+    Ctrl,
+    Credits,
+}
+
+/// The registers of 8 bytes.
+#[derive(Clone, Copy, Debug, PartialEq, Eq)]
+enum Wide {
+    Test64,
+    LinkStatus,
+    Enable,
+    SwitchId,
+    BaseAddr,
+}
+
+/// What stands at four bytes of the register space.
+#[derive(Clone, Copy, Debug, PartialEq, Eq)]
+enum Word {
+    Bogus,
+    Narrow(Narrow),
+    Lower(Wide),
+    Upper(Wide),
+    Reserved,
+}
+
+fn word(offset: u64) -> Word {
+    match offset {
+        0x0000..=0x000f => Word::Bogus,
+        0x0010 => Word::Narrow(Narrow::Test),
+        0x0018 => Word::Lower(Wide::Test64),
+        0x001c => Word::Upper(Wide::Test64),
+        0x0300 => Word::Narrow(Narrow::Control),
+        0x0304 => Word::Narrow(Narrow::PortCount),
+        0x0310 => Word::Lower(Wide::LinkStatus),
+        0x0314 => Word::Upper(Wide::LinkStatus),
+        0x0318 => Word::Lower(Wide::Enable),
+        0x031c => Word::Upper(Wide::Enable),
+        0x0320 => Word::Lower(Wide::SwitchId),
+        0x0324 => Word::Upper(Wide::SwitchId),
+        0x1000 => Word::Lower(Wide::BaseAddr),
+        0x1004 => Word::Upper(Wide::BaseAddr),
+        0x1008 => Word::Narrow(Narrow::Size),
+        0x100c => Word::Narrow(Narrow::Head),
+        0x1010 => Word::Narrow(Narrow::Tail),
+        0x1014 => Word::Narrow(Narrow::Ctrl),
+        0x1018 => Word::Narrow(Narrow::Credits),
+        _ => Word::Reserved,
+    }
+}
+
+/// The shape test. An 8-byte access is refused when either of its halves is a
+/// 4-byte register; over reserved places alone it is allowed.
+fn allowed(width: u64, offset: u64) -> bool {
+    let narrow = |offset| matches!(word(offset), Word::Narrow(_));
+    (width == 4 || width == 8)
+        && offset.is_multiple_of(width)
+        && u128::from(offset) + u128::from(width) <= SPACE
+        && (width == 4 || !(narrow(offset) || narrow(offset + 4)))
+}
+
+/// A writable 64-bit register with the hold that belongs to it alone.
+#[derive(Clone, Copy, Debug, Default, PartialEq, Eq)]
+pub struct Held {
+    pub value: u64,
+    pub hold: u32,
+}
+
+/// The command ring's registers.
+#[derive(Clone, Copy, Debug, Default, PartialEq, Eq)]
+pub struct Ring {
+    pub base: Held,
+    pub size: u32,
+    pub head: u32,
+    pub tail: u32,
+    pub credits: u32,
+}
+
+impl Ring {
+    /// (to − from) modulo SIZE, for places in the ring.
+    fn distance(&self, from: u32, to: u32) -> u32 {
+        (to + self.size - from) % self.size
+    }
+
+    pub fn outstanding(&self) -> u32 {
+        if self.size == 0 {
+            0
+        } else {
+            self.distance(self.tail, self.head)
+        }
+    }
+
+    /// Without a SIZE no value is below it, so every HEAD is refused.
+    fn takes_head(&self, new: u32) -> bool {
+        new < self.size && self.outstanding() + self.distance(self.head, new) < self.size
+    }
+}
+
+/// What an accepted write did beyond the registers themselves.
+#[derive(Clone, Copy, Debug, Default, PartialEq, Eq)]
+pub struct Written {
+    /// Vector 0 was raised.
+    pub raised: bool,
+    /// The device was reset, so its tables have to be emptied.
+    pub reset: bool,
+}
+
+#[derive(Clone, Debug, PartialEq, Eq)]
+pub struct Registers {
+    pub ports: u32,
+    pub switch_id: u64,
+    pub links: u64,
+    pub enable: Held,
+    pub ring: Ring,
+    test: u32,
+    test64: Held,
+}
+
+impl Registers {
+    pub fn fresh(ports: u32, switch_id: u64) -> Self {
+        Registers {
+            ports,
+            switch_id,
+            links: 0,
+            enable: Held::default(),
+            ring: Ring::default(),
+            test: 0,
+            test64: Held::default(),
+        }
+    }
+
+    /// Bits 1 to the port count.
+    fn port_bits(&self) -> u64 {
+        (1..=self.ports).map(|port| 1u64 << port).sum()
+    }
+
+    /// A port that is both up and enabled.
+    pub fn carries(&self, port: u32) -> bool {
+        (1..=self.ports).contains(&port) && self.links & self.enable.value & (1 << port) != 0
+    }
+
+    fn show_wide(&self, register: Wide) -> u64 {
+        match register {
+            Wide::Test64 => self.test64.value.wrapping_add(self.test64.value),
+            Wide::LinkStatus => self.links,
+            Wide::Enable => self.enable.value,
+            Wide::SwitchId => self.switch_id,
+            Wide::BaseAddr => self.ring.base.value,
+        }
+    }
+
+    fn show(&self, word: Word) -> u32 {
+        match word {
+            Word::Bogus => BOGUS,
+            Word::Narrow(Narrow::Test) => self.test.wrapping_add(self.test),
+            Word::Narrow(Narrow::Control | Narrow::Ctrl) => 0,
+            Word::Narrow(Narrow::PortCount) => self.ports,
+            Word::Narrow(Narrow::Size) => self.ring.size,
+            Word::Narrow(Narrow::Head) => self.ring.head,
+            Word::Narrow(Narrow::Tail) => self.ring.tail,
+            Word::Narrow(Narrow::Credits) => self.ring.credits,
+            Word::Lower(register) => self.show_wide(register) as u32,
+            Word::Upper(register) => (self.show_wide(register) >> 32) as u32,
+            Word::Reserved => 0,
+        }
+    }
+
+    pub fn read(&self, width: u64, offset: u64) -> Result<u64, Refusal> {
+        if !allowed(width, offset) {
+            return Err(Refusal::Access);
+        }
+        let lower = u64::from(self.show(word(offset)));
+        if width == 4 {
+            return Ok(lower);
+        }
+        Ok(lower | u64::from(self.show(word(offset + 4))) << 32)
+    }
+
+    pub fn write(&mut self, width: u64, offset: u64, value: u64) -> Result<Written, Refusal> {
+        if !allowed(width, offset) {
+            return Err(Refusal::Access);
+        }
+        let half = value as u32;
+        match (width, word(offset)) {
+            (_, Word::Bogus | Word::Reserved) => Ok(Written::default()),
+            (4, Word::Narrow(register)) => self.write_narrow(register, half),
+            (4, Word::Lower(register)) => {
+                if let Some(held) = self.held(register) {
+                    held.hold = half;
+                }
+                Ok(Written::default())
+            }
+            (4, Word::Upper(register)) => {
+                let hold = self.held(register).map_or(0, |held| held.hold);
+                self.write_wide(register, u64::from(half) << 32 | u64::from(hold))
+            }
+            (_, Word::Lower(register)) => self.write_wide(register, value),
+            (_, Word::Narrow(_) | Word::Upper(_)) => Err(Refusal::Access),
+        }
+    }
+
+    /// The register with its hold; those that are read only have none.
+    fn held(&mut self, register: Wide) -> Option<&mut Held> {
+        match register {
+            Wide::Test64 => Some(&mut self.test64),
+            Wide::Enable => Some(&mut self.enable),
+            Wide::BaseAddr => Some(&mut self.ring.base),
+            Wide::LinkStatus | Wide::SwitchId => None,
+        }
+    }
+
+    fn write_wide(&mut self, register: Wide, value: u64) -> Result<Written, Refusal> {
+        let kept = match register {
+            Wide::BaseAddr if !value.is_multiple_of(8) => return Err(Refusal::Value),
+            Wide::Enable => value & self.port_bits(),
+            _ => value,
+        };
+        // An accepted write clears the hold; a refused one left above keeps it.
+        if let Some(held) = self.held(register) {
+            *held = Held {
+                value: kept,
+                hold: 0,
+            };
+        }
+        if register == Wide::BaseAddr {
+            self.ring.head = 0;
+            self.ring.tail = 0;
+        }
+        Ok(Written::default())
+    }
+
+    fn write_narrow(&mut self, register: Narrow, value: u32) -> Result<Written, Refusal> {
+        let ring = &mut self.ring;
+        let mut done = Written::default();
+        match register {
+            Narrow::Test => self.test = value,
+            Narrow::Control => {
+                if value & 1 != 0 {
+                    // Port count, switch ID and links outlive a reset.
+                    let links = self.links;
+                    *self = Registers::fresh(self.ports, self.switch_id);
+                    self.links = links;
+                    done.reset = true;
+                }
+            }
+            Narrow::PortCount | Narrow::Tail => {}
+            Narrow::Size => {
+                if !value.is_power_of_two() || !(2..=65_536).contains(&value) {
+                    return Err(Refusal::Value);
+                }
+                ring.size = value;
+                ring.head = 0;
+                ring.tail = 0;
+            }
+            Narrow::Head => {
+                if !ring.takes_head(value) {
+                    return Err(Refusal::Value);
+                }
+                ring.head = value;
+            }
+            Narrow::Ctrl => {
+                if value & 1 != 0 {
+                    *ring = Ring::default();
+                }
+            }
+            Narrow::Credits => {
+                if value > ring.credits {
+                    return Err(Refusal::Value);
+                }
+                ring.credits -= value;
+                done.raised = ring.credits > 0;
+            }
+        }
+        Ok(done)
+    }
+}
+
+#[cfg(test)]
+mod tests {
+    use super::*;
+
+    fn registers() -> Registers {
+        Registers::fresh(4, 0x1122_3344_5566_7788)
+    }
+
+    /// A ring of 8 with HEAD 5 and TAIL 2.
+    fn ring_8_5_2() -> Registers {
+        let mut r = registers();
+        r.write(4, 0x1008, 8).unwrap();
+        r.write(4, 0x100c, 5).unwrap();
+        r.ring.tail = 2;
+        r
+    }
+
+    #[test]
+    fn p1_head_1_is_accepted_and_7_are_outstanding() {
+        let mut r = ring_8_5_2();
+        assert!(r.write(4, 0x100c, 1).is_ok());
+        assert_eq!(r.ring.outstanding(), 7);
+    }
+
+    #[test]
+    fn p2_head_2_would_fill_the_ring() {
+        let mut r = ring_8_5_2();
+        assert_eq!(r.write(4, 0x100c, 2), Err(Refusal::Value));
+        assert_eq!(r, ring_8_5_2());
+    }
+
+    #[test]
+    fn p3_an_unchanged_head_posts_nothing() {
+        let mut r = ring_8_5_2();
+        assert_eq!(r.write(4, 0x100c, 5), Ok(Written::default()));
+        assert_eq!(r.ring.outstanding(), 3);
+    }
+
+    #[test]
+    fn p4_head_8_is_not_below_size() {
+        assert_eq!(ring_8_5_2().write(4, 0x100c, 8), Err(Refusal::Value));
+    }
+
+    #[test]
+    fn heads_behind_the_posted_ones_are_refused() {
+        // 3 and 4 lie between TAIL and HEAD; going there would pass TAIL.
+        for new in [2, 3, 4] {
+            assert_eq!(ring_8_5_2().write(4, 0x100c, new), Err(Refusal::Value));
+        }
+        for new in [5, 6, 7, 0, 1] {
+            assert!(ring_8_5_2().write(4, 0x100c, new).is_ok());
+        }
+    }
+
+    #[test]
+    fn p5_p6_sizes() {
+        let mut r = registers();
+        assert!(r.write(4, 0x1008, 65_536).is_ok());
+        assert_eq!(r.ring.size, 65_536);
+        for bad in [3, 0, 1, 131_072, 6, 65_535, 0x8000_0000, 0xffff_ffff] {
+            assert_eq!(r.write(4, 0x1008, bad), Err(Refusal::Value));
+        }
+        assert_eq!(r.ring.size, 65_536);
+        assert!(r.write(4, 0x1008, 2).is_ok());
+    }
+
+    #[test]
+    fn p7_test_registers_show_twice_the_value() {
+        let mut r = registers();
+        r.write(4, 0x10, 0x8000_0001).unwrap();
+        assert_eq!(r.read(4, 0x10), Ok(2));
+        r.write(8, 0x18, 0x8000_0000_8000_0001).unwrap();
+        assert_eq!(r.read(8, 0x18), Ok(0x1_0000_0002));
+        assert_eq!(r.read(4, 0x18), Ok(2));
+        assert_eq!(r.read(4, 0x1c), Ok(1));
+    }
+
+    #[test]
+    fn p8_p9_credits() {
+        let mut r = registers();
+        r.ring.credits = 3;
+        assert_eq!(r.write(4, 0x1018, 4), Err(Refusal::Value));
+        let mut all = r.clone();
+        assert!(!all.write(4, 0x1018, 3).unwrap().raised);
+        assert_eq!(all.ring.credits, 0);
+        assert!(r.write(4, 0x1018, 2).unwrap().raised);
+        assert_eq!(r.ring.credits, 1);
+        assert!(r.write(4, 0x1018, 0).unwrap().raised);
+        assert!(!all.write(4, 0x1018, 0).unwrap().raised);
+    }
+
+    #[test]
+    fn shapes() {
+        let r = registers();
+        for offset in (0..0x2000).step_by(4) {
+            assert!(r.read(4, offset).is_ok());
+        }
+        let refused = [0x10, 0x300, 0x1008, 0x1010, 0x1018];
+        for offset in (0..0x2000u64).step_by(8) {
+            assert_eq!(r.read(8, offset).is_err(), refused.contains(&offset));
+        }
+        let odd = [
+            (4, 2),
+            (4, 0x2000),
+            (8, 4),
+            (8, 0x1c),
+            (8, 0x2000),
+            (8, 0x1ffc),
+            (2, 0),
+            (1, 0),
+            (0, 0),
+            (16, 0),
+            (12, 0),
+            (4, u64::MAX - 3),
+            (8, u64::MAX - 7),
+            (0x1_0000_0004, 0),
+            (4, 0x1_0000_0010),
+        ];
+        for (width, offset) in odd {
+            assert_eq!(r.read(width, offset), Err(Refusal::Access));
+            let mut w = r.clone();
+            assert_eq!(w.write(width, offset, 1), Err(Refusal::Access));
+            assert_eq!(w, r);
+        }
+    }
+
+    #[test]
+    fn fixed_places() {
+        let mut r = registers();
+        r.links = 0b10100;
+        let before = r.clone();
+        assert_eq!(r.read(4, 0xc), Ok(0xDEAD_BABE));
+        assert_eq!(r.read(8, 0), Ok(0xDEAD_BABE_DEAD_BABE));
+        assert_eq!(r.read(8, 8), Ok(0xDEAD_BABE_DEAD_BABE));
+        assert_eq!(r.read(4, 0x304), Ok(4));
+        assert_eq!(r.read(8, 0x310), Ok(0b10100));
+        assert_eq!(r.read(4, 0x320), Ok(0x5566_7788));
+        assert_eq!(r.read(4, 0x324), Ok(0x1122_3344));
+        for offset in [
+            0, 4, 8, 0x304, 0x310, 0x314, 0x320, 0x324, 0x1010, 0x101c, 0x20, 0x1ffc,
+        ] {
+            assert_eq!(r.write(4, offset, u64::MAX), Ok(Written::default()));
+        }
+        for offset in [0, 8, 0x20, 0x308, 0x310, 0x320, 0x1ff8] {
+            assert_eq!(r.write(8, offset, u64::MAX), Ok(Written::default()));
+        }
+        assert_eq!(r, before);
+    }
+
+    #[test]
+    fn each_wide_register_has_its_own_hold() {
+        let mut r = registers();
+        r.write(4, 0x18, 0x10).unwrap();
+        r.write(4, 0x318, 0x6).unwrap();
+        r.write(4, 0x1000, 0x40).unwrap();
+        assert_eq!(
+            (r.test64.value, r.enable.value, r.ring.base.value),
+            (0, 0, 0)
+        );
+        r.write(4, 0x1004, 1).unwrap();
+        r.write(4, 0x31c, 1).unwrap();
+        r.write(4, 0x1c, 1).unwrap();
+        assert_eq!(r.ring.base.value, 0x1_0000_0040);
+        assert_eq!(r.enable.value, 6);
+        assert_eq!(r.test64.value, 0x1_0000_0010);
+    }
+
+    #[test]
+    fn a_cleared_hold_is_zero_and_a_refused_write_keeps_it() {
+        let mut r = registers();
+        r.write(4, 0x1000, 0x44).unwrap();
+        assert_eq!(r.write(4, 0x1004, 1), Err(Refusal::Value));
+        assert_eq!(
+            r.ring.base,
+            Held {
+                value: 0,
+                hold: 0x44
+            }
+        );
+        assert_eq!(r.write(8, 0x1000, 12), Err(Refusal::Value));
+        assert_eq!(r.ring.base.hold, 0x44);
+        r.write(8, 0x1000, 16).unwrap();
+        r.write(4, 0x1004, 2).unwrap();
+        assert_eq!(r.ring.base.value, 0x2_0000_0000);
+    }
+
+    #[test]
+    fn base_and_size_set_head_and_tail_to_zero_and_keep_credits() {
+        for (width, offset, value) in [(8, 0x1000, 64), (4, 0x1004, 0), (4, 0x1008, 4)] {
+            let mut r = ring_8_5_2();
+            r.ring.credits = 9;
+            r.write(width, offset, value).unwrap();
+            assert_eq!((r.ring.head, r.ring.tail, r.ring.credits), (0, 0, 9));
+        }
+        // The lower half is not yet a write of the register.
+        let mut r = ring_8_5_2();
+        r.write(4, 0x1000, 64).unwrap();
+        assert_eq!((r.ring.head, r.ring.tail), (5, 2));
+    }
+
+    #[test]
+    fn a_ring_reset_zeroes_the_ring_with_its_hold_only() {
+        let mut r = ring_8_5_2();
+        r.ring.credits = 2;
+        r.write(4, 0x1000, 8).unwrap();
+        r.write(4, 0x18, 8).unwrap();
+        r.write(4, 0x1014, 2).unwrap();
+        assert_eq!(r.ring.size, 8);
+        r.write(4, 0x1014, 3).unwrap();
+        assert_eq!(r.ring, Ring::default());
+        assert_eq!(r.test64.hold, 8);
+        assert_eq!(r.read(4, 0x1014), Ok(0));
+    }
+
+    #[test]
+    fn a_device_reset_keeps_ports_switch_id_and_links() {
+        let mut r = ring_8_5_2();
+        r.links = 6;
+        r.write(4, 0x10, 1).unwrap();
+        r.write(8, 0x18, 1).unwrap();
+        r.write(4, 0x18, 1).unwrap();
+        r.write(8, 0x318, 6).unwrap();
+        assert!(!r.write(4, 0x300, 0xffff_fffe).unwrap().reset);
+        assert!(r.write(4, 0x300, 0x1_0000_0001).unwrap().reset);
+        let mut expected = registers();
+        expected.links = 6;
+        assert_eq!(r, expected);
+    }
+
+    #[test]
+    fn enable_drops_bits_of_no_port() {
+        let mut r = registers();
+        r.write(8, 0x318, u64::MAX).unwrap();
+        assert_eq!(r.read(8, 0x318), Ok(0b11110));
+        let mut r = Registers::fresh(62, 0);
+        r.write(8, 0x318, u64::MAX).unwrap();
+        assert_eq!(r.read(8, 0x318), Ok(0x7fff_ffff_ffff_fffe));
+    }
+
+    #[test]
+    fn without_a_size_every_head_is_refused() {
+        for new in [0, 1, 5] {
+            assert_eq!(registers().write(4, 0x100c, new), Err(Refusal::Value));
+        }
+    }
+
+    #[test]
+    fn a_4_byte_write_takes_the_low_32_bits() {
+        let mut r = registers();
+        r.write(4, 0x1008, 0xabcd_0000_0008).unwrap();
+        assert_eq!(r.ring.size, 8);
+        r.write(4, 0x100c, 0x1_0000_0003).unwrap();
+        assert_eq!(r.ring.head, 3);
+        assert!(r.write(4, 0x1018, 0x5_0000_0000).is_ok());
+    }
+}
