@@ -1,17 +1,17 @@
 -- From table to table: what a frame's way is after the flow that decides in a table was found.
 -- Assumes nothing.
-use Prim.Native.Nat.{ℕ, zero, suc, _<_}
+use Prim.Native.Nat.{ℕ, _<_}
 use mathlib.Core.Bool.{Bool, true, false, not}
 use mathlib.Core.Option.{Option, none, some}
-use mathlib.Core.Path.{_≡_, refl, ap, sym, _∙_}
+use mathlib.Core.Path.{_≡_, sym}
 use mathlib.Core.List.{List}
 use native.Mathlib.Omega.{arith}
 use lib.Dec.{eqb}
 use borrow.Author.Tests.{ne-eqb, eqb-true, not-true, not-false}
 use Rattle.rules.specs.Choose.{choose}
-use Rattle.rules.specs.Frame.{Exit, best, beats, matches0, matches10, matches50, passesTable0, exitOf, fromTable50, afterTable10, fromTable10}
+use Rattle.rules.specs.Frame.{frameMac, frameVlan, way, best, beats, matches0, matches10, matches50, passesTable0, exitOf, fromTable50, afterTable10, fromTable10}
 use Rattle.rules.specs.declared.FlowEntry.{FlowEntry}
-use Rattle.rules.proofs.Cases.{by-test, by-eq, not-both}
+use Rattle.rules.proofs.Cases.{by-eq}
 use Rattle.deciding.specs.Way.{matchesIn, passesTable, nextTable, vlanAfter, wayFrom}
 
 -- how many tables are left after one
@@ -77,3 +77,9 @@ module _ (flows : List FlowEntry) (port mac table vlan : ℕ) (e : FlowEntry) wh
       (λ h r. simp (q, r, in-10 d q r, not-true (eqb (e .«goto_tbl») 0) p))
       (λ h r. absurd (n (simp (q, r)))))
   way-on false d p n = let t : eqb table 10 ≡ false = ne-eqb table 10 (λ w. omega (arith, eqb-true table 0 p)) in simp (p, t, in-0 d p)
+
+-- from table 0 on it is the whole way
+pub way-whole : (flows : List FlowEntry) (port mac vlan : ℕ) (f : List ℕ) → mac ≡ frameMac f → vlan ≡ frameVlan f
+    → wayFrom flows port mac 0 vlan ≡ way flows port f
+unfolding wayFrom way
+way-whole flows port mac vlan f p q = rw (p, q)
