@@ -1,0 +1,2 @@
+-- What the members of a group and the writing of outputs are held to.
+pub mod Outputs

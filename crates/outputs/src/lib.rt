@@ -1,0 +1,225 @@
+// A group's outputs (document 01: copies), resolved and written into a list.
+use rules::GroupTable;
+use rules::Registers;
+ghost use Prim.Native.Nat.{_+_, _*_, _<_, _≤_};
+ghost use mathlib.Core.Path.{_≡_};
+ghost use mathlib.Core.Bool.{not, _&&_, _||_};
+ghost use mathlib.Core.List.{[], _∷_};
+ghost use lib.Dec.{ltb, eqb};
+ghost use lib.ListN.{length};
+ghost use Rattle.rules.specs.Choose.{choose};
+ghost use Rattle.rules.specs.GroupId.{groupType, groupVlan, groupLow, memberId, hasMembers};
+ghost use Rattle.rules.specs.Keyed.{find};
+ghost use Rattle.rules.specs.Registers.{isUp};
+ghost use Rattle.rules.specs.Tables.{liveGroups, idOf};
+ghost use Rattle.rules.specs.Frame.{keep, memberOutputs, foundOutputs};
+ghost use Rattle.outputs.specs.Outputs.{membersFound, membersOf, lowsIn, withOutput, withRoom, Sends, Lists};
+
+// The low 16 bits of some groups of type 0, in order.
+pub struct Members {
+    pub count: usize,
+    pub lows: [u16; 62],
+}
+
+// ---- Group IDs
+
+fn group_type(id: u32) -> u32
+    ensures { λ r. ⌜ r ≡ groupType id ⌝ }
+{
+    id >> 28
+}
+
+fn group_vlan(id: u32) -> u32
+    ensures { λ r. ⌜ r ≡ groupVlan id ⌝ }
+{
+    (id >> 16) & 0xfff
+}
+
+fn group_low(id: u32) -> u16
+    ensures { λ r. ⌜ r ≡ groupLow id ⌝ }
+{
+    (id & 0xffff) as u16
+}
+
+fn has_members(kind: u32) -> bool
+    ensures { λ r. ⌜ r ≡ hasMembers kind ⌝ }
+{
+    (kind == 3) | (kind == 4)
+}
+
+// The ID of the group of type 0 with a VLAN and low bits.
+fn member_id(vlan: u32, low: u16) -> u32
+    requires { ⌜ vlan < 4096 ⌝ }
+    ensures { λ r. ⌜ r ≡ memberId vlan low ⌝ }
+{
+    vlan * 65536 + low as u32
+}
+
+// ---- Writing outputs
+
+// Left out: outputs to the ingress port, and to a port from 1 up that is down or not enabled. Port 0 is the host.
+fn is_kept(d: Registers, ingress: u64, port: u64) -> bool
+    ensures { λ r. ⌜ r ≡ not (eqb port ingress) && (eqb port 0 || isUp d port) ⌝ }
+{
+    (port != ingress) & ((port == 0) | registers::is_up(d, port))
+}
+
+fn number(pop: bool) -> u16
+    ensures { λ r. ⌜ r ≡ choose pop 1 0 ⌝ }
+{
+    if pop { 1 } else { 0 }
+}
+
+fn put(list: &mut [u16], n: usize, port: u16, vlan: u16, pop: u16)
+    requires { ⌜ 3 * n + 2 < length (now list) ⌝ }
+    ensures { λ _. ⌜ now (list .exit) ≡ withOutput (record { port = port; vlan = vlan; pop = pop }) n (now (list .entry)) ⌝ }
+{
+    let i = 3 * n;
+    list[i] = port;
+    list[i + 1] = vlan;
+    list[i + 2] = pop;
+}
+
+// Writes an output after n others, unless it is left out, and gives their number.
+fn send(
+    d: Registers,
+    ingress: u64,
+    port: u16,
+    vlan: u16,
+    pop: u16,
+    n: usize,
+    list: &mut [u16],
+) -> usize
+    requires { ⌜ 3 * n + 2 < length (now list) ⌝ }
+    ensures { λ r. ⌜ Sends d ingress (record { port = port; vlan = vlan; pop = pop }) n r (now (list .entry)) (now (list .exit)) ⌝ }
+{
+    if is_kept(d, ingress, port as u64) {
+        put(list, n, port, vlan, pop);
+        return n + 1;
+    }
+    n
+}
+
+// ---- Members
+
+fn no_members() -> Members
+    ensures { λ r. ⌜ lowsIn r ≡ [] ⌝ }
+{
+    Members {
+        count: 0,
+        lows: [0u16; 62],
+    }
+}
+
+fn members_in(groups: GroupTable, id: u32) -> Members
+    ensures { λ r. ⌜ lowsIn r ≡ membersFound (find idOf id (liveGroups groups)) ⌝ }
+{
+    let n = deciding::live(groups.count, 128);
+    let mut i: usize = 0;
+    while i < n {
+        let g = groups.entries[i];
+        if id <= g.id {
+            if id == g.id {
+                let lows = g.members;
+                return Members {
+                    count: g.member_count as usize,
+                    lows,
+                };
+            }
+            return no_members();
+        }
+        i += 1;
+    }
+    no_members()
+}
+
+fn itself(low: u16) -> Members
+    ensures { λ r. ⌜ lowsIn r ≡ low ∷ [] ⌝ }
+{
+    let mut lows = [0u16; 62];
+    lows[0] = low;
+    Members { count: 1, lows }
+}
+
+// A group of type 0 stands for itself, so that one loop resolves every group.
+fn members_of(groups: GroupTable, id: u32) -> Members
+    ensures { λ r. ⌜ lowsIn r ≡ membersOf (liveGroups groups) id ⌝ }
+{
+    let kind = group_type(id);
+    if kind == 0 {
+        return itself(group_low(id));
+    }
+    if has_members(kind) {
+        return members_in(groups, id);
+    }
+    no_members()
+}
+
+// Where the search for an ID starts, after the one for `last` ended at j: the entries that were passed are below both, unless
+// the ID is below `last`.
+fn from(id: u32, last: u32, j: usize) -> usize
+    ensures { λ r. ⌜ r ≡ choose (ltb id last) 0 j ⌝ }
+{
+    if id < last { 0 } else { j }
+}
+
+// Writes the outputs of the members that exist, in order.
+fn resolve(
+    d: Registers,
+    groups: GroupTable,
+    ingress: u64,
+    vlan: u16,
+    group_vlan: u32,
+    m: Members,
+    list: &mut [u16],
+) -> usize
+    requires { ⌜ («group_vlan» < 4096) × (186 ≤ length (now list)) ⌝ }
+    ensures { λ r. ⌜ Lists (keep d ingress (memberOutputs (liveGroups groups) «group_vlan» vlan (lowsIn m))) r (now (list .entry)) (now (list .exit)) ⌝ }
+{
+    let n = deciding::live(groups.count, 128);
+    let size = deciding::live(m.count, 62);
+    let mut k: usize = 0;
+    let mut out: usize = 0;
+    let mut j: usize = 0;
+    let mut last: u32 = 0;
+    while k < size {
+        let id = member_id(group_vlan, m.lows[k]);
+        k += 1;
+        j = from(id, last, j);
+        last = id;
+        while j < n {
+            let g = groups.entries[j];
+            if id <= g.id {
+                break;
+            }
+            j += 1;
+        }
+        if j < n {
+            let g = groups.entries[j];
+            if g.id == id {
+                let pop = number(g.pop_vlan);
+                out = send(d, ingress, group_low(id), vlan, pop, out, list);
+            }
+        }
+    }
+    out
+}
+
+// Writes a group's outputs to the start of a list, unless it is shorter than 186 numbers, and gives their number. A missing group
+// has none.
+pub fn group_outputs(
+    d: Registers,
+    groups: GroupTable,
+    ingress: u64,
+    vlan: u16,
+    id: u32,
+    list: &mut [u16],
+) -> usize
+    ensures { λ r. ⌜ Lists (withRoom (now (list .entry)) (keep d ingress (foundOutputs (liveGroups groups) vlan (find idOf id (liveGroups groups))))) r (now (list .entry)) (now (list .exit)) ⌝ }
+{
+    if list.len() < 186 {
+        return 0;
+    }
+    let m = members_of(groups, id);
+    resolve(d, groups, ingress, vlan, group_vlan(id), m, list)
+}
