@@ -1,0 +1,80 @@
+-- The outcome of a frame call, case by case.
+-- Assumes nothing.
+use Prim.Native.Nat.{ℕ, _<_, _≤_}
+use mathlib.Core.Bool.{true, false, _&&_}
+use mathlib.Core.Option.{Option}
+use mathlib.Core.Path.{_≡_, sym}
+use mathlib.Core.List.{List, []}
+use native.Mathlib.Omega.{arith}
+use lib.ListN.{length}
+use lib.Dec.{leb}
+use borrow.Author.Tests.{lt-ltb, le-ltb, leb-true}
+use Rattle.rules.specs.Answers.{number}
+use Rattle.rules.specs.Registers.{portCountAllowed, portAllowed, isUp}
+use Rattle.rules.specs.Keyed.{find}
+use Rattle.rules.specs.Tables.{Tables, idOf}
+use Rattle.rules.specs.Frame.{Exit, foundOutputs, isFrame, way, exitOutputs, keep, outputs, frameRefusal}
+use Rattle.rules.specs.declared.Registers.{Registers}
+use Rattle.rules.specs.declared.GroupEntry.{GroupEntry}
+use Rattle.deciding.specs.Way.{exitIn}
+use Rattle.deciding.specs.declared.WayOut.{WayOut}
+use Rattle.rules.specs.declared.Answer.the-variants.{Done, PortNotAllowed, NotAFrame, ListShort}
+use Rattle.rules.proofs.Cases.{and-left, and-right}
+use Rattle.outputs.specs.Outputs.{Lists}
+use Rattle.egress.specs.Outcome.{Outcome}
+use Rattle.outputs.proofs.Writing.{lists-none}
+
+module _ (d : Registers) (t : Tables) (port : ℕ) (f before : List ℕ) where
+  pub port-refused : portAllowed d port ≡ false → Outcome d t port f before (record { answer = PortNotAllowed; outputs = 0 }) before
+  unfolding frameRefusal number
+  port-refused p = record { answer = simp p; count = simp p; list = simp p }
+
+  module _ (p : portAllowed d port ≡ true) where
+    pub frame-refused : isFrame f ≡ false → Outcome d t port f before (record { answer = NotAFrame; outputs = 0 }) before
+    unfolding frameRefusal number
+    frame-refused q = record { answer = simp (p, q); count = simp (p, q); list = simp (p, q) }
+
+    module _ (q : isFrame f ≡ true) where
+      pub list-refused : length before < 186 → Outcome d t port f before (record { answer = ListShort; outputs = 0 }) before
+      unfolding frameRefusal number
+      list-refused h =
+          let s = lt-ltb (length before) 186 h in
+          record { answer = simp (p, q, s); count = simp (p, q, s); list = simp (p, q, s) }
+
+      module _ (h : 186 ≤ length before) where
+        accepted : frameRefusal d port f before ≡ 0
+        unfolding frameRefusal
+        accepted = simp (p, q, le-ltb (length before) 186 h)
+
+        done : {n : ℕ} {after : List ℕ} → Lists (outputs d t port f) n before after → Outcome d t port f before (record { answer = Done; outputs = n }) after
+        unfolding number
+        done l = record { answer = sym accepted; count = rw accepted (l .count); list = rw accepted (l .list) }
+
+        -- "An ingress port that is down or not enabled gives no copies."
+        pub port-down : isUp d port ≡ false → Outcome d t port f before (record { answer = Done; outputs = 0 }) before
+        unfolding outputs
+        port-down u = done (simp u (lists-none before))
+
+        pub port-up : isUp d port ≡ true → {n : ℕ} {after : List ℕ} → Lists (keep d port (exitOutputs (t .groups) (way (t .flows) port f))) n before after
+            → Outcome d t port f before (record { answer = Done; outputs = n }) after
+        unfolding outputs
+        port-up u l = done (simp u l)
+
+-- a port that is allowed is a small number
+pub port-small : (d : Registers) (port : ℕ) → portAllowed d port ≡ true → port ≤ 62
+unfolding portAllowed portCountAllowed
+port-small d port e =
+    let count = and-left (leb 1 (d .ports) && leb (d .ports) 62) (leb 1 port) (and-left (leb 1 (d .ports) && leb (d .ports) 62 && leb 1 port) (leb port (d .ports)) e) in
+    let h = leb-true port (d .ports) (and-right (leb 1 (d .ports) && leb (d .ports) 62 && leb 1 port) (leb port (d .ports)) e) in
+    let k = leb-true (d .ports) 62 (and-right (leb 1 (d .ports)) (leb (d .ports) 62) count) in
+    omega arith
+
+-- a way out, by whether there is one
+module _ (groups : List GroupEntry) (w : WayOut) (r : Option Exit) (e : exitIn w ≡ r) where
+  pub out-found : w .found ≡ true → exitOutputs groups r ≡ foundOutputs groups (w .vlan) (find idOf (w .group) groups)
+  unfolding exitIn exitOutputs
+  out-found p = rw (← e) (simp p)
+
+  pub out-none : w .found ≡ false → exitOutputs groups r ≡ []
+  unfolding exitIn exitOutputs
+  out-none p = rw (← e) (simp p)

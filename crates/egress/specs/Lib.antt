@@ -1,0 +1,2 @@
+-- What the frame call is held to.
+pub mod Outcome

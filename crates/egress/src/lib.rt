@@ -1,0 +1,106 @@
+// The frame call. It has no `requires`: whatever the registers and tables hold, it gives exactly what the rules say.
+use rules::Answer;
+use rules::FlowTable;
+use rules::GroupTable;
+use rules::Registers;
+ghost use Prim.Native.Nat.{_≤_};
+ghost use mathlib.Core.Path.{_≡_};
+ghost use lib.ListN.{length, getD};
+ghost use Rattle.rules.specs.Bytes.{leAt, swap16};
+ghost use Rattle.rules.specs.Tables.{liveFlows, liveGroups};
+ghost use Rattle.rules.specs.Frame.{isTagged, isFrame, frameVlan, way, keep, exitOutputs};
+ghost use Rattle.outputs.specs.Outputs.{Lists};
+ghost use Rattle.egress.specs.Outcome.{Outcome};
+
+// What a frame call gives: the answer, and how many outputs (document 01: copies) stand at the start of the list.
+pub struct Framed {
+    pub answer: Answer,
+    pub outputs: usize,
+}
+
+fn byte(f: &[u8], i: usize) -> u8
+    ensures { λ r. ⌜ r ≡ getD (now (f .entry)) i 0 ⌝ }
+{
+    if i < f.len() { f[i] } else { 0 }
+}
+
+fn is_tagged(f: &[u8]) -> bool
+    ensures { λ r. ⌜ r ≡ isTagged (now (f .entry)) ⌝ }
+{
+    (byte(f, 12) == 0x81) & (byte(f, 13) == 0x00)
+}
+
+fn is_frame(f: &[u8]) -> bool
+    ensures { λ r. ⌜ r ≡ isFrame (now (f .entry)) ⌝ }
+{
+    (14 <= f.len()) & (f.len() <= 9216) & (!is_tagged(f) | (18 <= f.len()))
+}
+
+// Bytes 14 and 15, which stand big-endian.
+fn tag(f: &[u8]) -> u16
+    ensures { λ r. ⌜ r ≡ swap16 (leAt 2 (now (f .entry)) 14) ⌝ }
+{
+    wire::be16(f, 14)
+}
+
+// The low 12 bits of a tagged frame's tag.
+fn frame_vlan(f: &[u8]) -> u16
+    ensures { λ r. ⌜ r ≡ frameVlan (now (f .entry)) ⌝ }
+{
+    if is_tagged(f) {
+        return tag(f) & 0xfff;
+    }
+    0
+}
+
+// The outputs of a frame on a port that is up and enabled.
+fn outputs_from(
+    d: Registers,
+    flows: FlowTable,
+    groups: GroupTable,
+    port: u32,
+    f: &[u8],
+    list: &mut [u16],
+) -> usize
+    requires { ⌜ 186 ≤ length (now list) ⌝ }
+    ensures { λ r. ⌜ Lists (keep d port (exitOutputs (liveGroups groups) (way (liveFlows flows) port (now (f .entry))))) r (now (list .entry)) (now (list .exit)) ⌝ }
+{
+    let w = deciding::way(flows, port, frame_vlan(f), wire::le48(f, 0));
+    if w.found {
+        return outputs::group_outputs(d, groups, port as u64, w.vlan, w.group, list);
+    }
+    0
+}
+
+fn answered(answer: Answer, outputs: usize) -> Framed
+    ensures { λ r. ⌜ r ≡ record { answer = answer; outputs = outputs } ⌝ }
+{
+    Framed { answer, outputs }
+}
+
+// The frame call: a frame comes in on a port, and its outputs are written to the start of the list. A refused call writes nothing.
+pub fn frame(
+    d: Registers,
+    flows: FlowTable,
+    groups: GroupTable,
+    port: u64,
+    f: &[u8],
+    list: &mut [u16],
+) -> Framed
+    ensures { λ r. ⌜ Outcome d (record { flows = liveFlows flows; groups = liveGroups groups }) port (now (f .entry)) (now (list .entry)) r (now (list .exit)) ⌝ }
+{
+    if !registers::port_allowed(d, port) {
+        return answered(Answer::PortNotAllowed, 0);
+    }
+    if !is_frame(f) {
+        return answered(Answer::NotAFrame, 0);
+    }
+    if list.len() < 186 {
+        return answered(Answer::ListShort, 0);
+    }
+    if !registers::is_up(d, port) {
+        return answered(Answer::Done, 0);
+    }
+    let n = outputs_from(d, flows, groups, port as u32, f, list);
+    answered(Answer::Done, n)
+}
