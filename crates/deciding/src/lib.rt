@@ -19,21 +19,30 @@ pub struct WayOut {
 fn matches0(e: FlowEntry, port: u32) -> bool
     ensures { λ r. ⌜ r ≡ Frame·matches0 port e ⌝ }
 {
-    (e.table == 0) & (port & e.in_pport_mask == e.in_pport & e.in_pport_mask)
+    if e.table != 0 {
+        return false;
+    }
+    port & e.in_pport_mask == e.in_pport & e.in_pport_mask
 }
 
 // Table 10 compares port and VLAN.
 fn matches10(e: FlowEntry, port: u32, vlan: u16) -> bool
     ensures { λ r. ⌜ r ≡ Frame·matches10 port vlan e ⌝ }
 {
-    (e.table == 10) & (e.in_pport == port) & (e.vlan_id == vlan)
+    if e.table != 10 {
+        return false;
+    }
+    (e.in_pport == port) & (e.vlan_id == vlan)
 }
 
 // Table 50 compares VLAN and, where given, DST_MAC.
 fn matches50(e: FlowEntry, vlan: u16, mac: u64) -> bool
     ensures { λ r. ⌜ r ≡ Frame·matches50 vlan mac e ⌝ }
 {
-    (e.table == 50) & (e.vlan_id == vlan) & (!e.has_mac | (e.dst_mac == mac))
+    if e.table != 50 {
+        return false;
+    }
+    (e.vlan_id == vlan) & (!e.has_mac | (e.dst_mac == mac))
 }
 
 fn matches(e: FlowEntry, table: u16, port: u32, vlan: u16, mac: u64) -> bool

@@ -13,13 +13,15 @@ use Rattle.deciding.proofs.way.Statement.{statement}
 use Rattle.deciding.proofs.way.Tie as tie
 
 abbrev Inv-loop2 : tie.InvT-loop2
-Inv-loop2 port vlan mac flows n table tag found₀ at₀ i₀ found at i = (i ≤ n) × (at < 256) × Scanned (matchesIn table port tag mac) (flows .count) (flows .entries) i found at
+Inv-loop2 port vlan mac flows n table tag found₀ at₀ i₀ found at i =
+    (i ≤ n) × (at < 256) × Scanned (matchesIn table port tag mac) (flows .count) (flows .entries) i found at
 
 abbrev μ-loop2 : tie.MeasureT-loop2
 μ-loop2 port vlan mac flows n table tag found₀ at₀ i₀ found at i = i
 
 abbrev Inv-loop : tie.InvT-loop
-Inv-loop port vlan mac flows n table₀ tag₀ table tag = (n ≡ length (liveFlows flows)) × (n ≤ 256) × (wayFrom (liveFlows flows) port mac table tag ≡ wayFrom (liveFlows flows) port mac 0 vlan)
+Inv-loop port vlan mac flows n table₀ tag₀ table tag =
+    (n ≡ length (liveFlows flows)) × (n ≤ 256) × (wayFrom (liveFlows flows) port mac table tag ≡ wayFrom (liveFlows flows) port mac 0 vlan)
 
 abbrev μ-loop : tie.MeasureT-loop
 μ-loop port vlan mac flows n table₀ tag₀ table tag = tablesAfter table
@@ -108,7 +110,11 @@ returns c =
     let p = c .before .before in
     let l = p .before .before .before in
     let a = l .before .before .before .args in
-    simp (c .dropped .ensures) (sym (way-dropped (liveFlows (a .t1)) (a .port) (a .mac) (l .before .loop .table) (l .before .loop .tag) (getD (a .t1 .entries) (l .loop2 .at) freeFlow) (l .loop2 .found) (scan-ends (l .loop2 .inv .2) (omega arith)) (sym (p .passes .ensures) ∙ not-true _ (c .before .if3 .taken))) ∙ l .before .loop .inv .2)
+    let b = getD (a .t1 .entries) (l .loop2 .at) freeFlow in
+    let d = scan-ends (l .loop2 .inv .2) (omega arith) in
+    let e = way-dropped (liveFlows (a .t1)) (a .port) (a .mac) (l .before .loop .table) (l .before .loop .tag) b (l .loop2 .found) d
+    (sym (p .passes .ensures) ∙ not-true _ (c .before .if3 .taken)) in
+    simp (c .dropped .ensures) (sym e ∙ l .before .loop .inv .2)
 
 next-table-requires : tie.Need-next-table-requires Inv-loop2 μ-loop2 Inv-loop μ-loop
 next-table-requires c κs = search needs
@@ -119,7 +125,12 @@ returns-2 c =
     let p = c .before .before .before in
     let l = p .before .before .before in
     let a = l .before .before .before .args in
-    sym (way-leaves (liveFlows (a .t1)) (a .port) (a .mac) (l .before .loop .table) (l .before .loop .tag) (getD (a .t1 .entries) (l .loop2 .at) freeFlow) (l .loop2 .found) (scan-ends (l .loop2 .inv .2) (omega arith)) (sym (p .passes .ensures) ∙ not-false _ (c .before .before .if3 .left)) (sym (c .before .next-table .ensures) ∙ c .if4 .taken)) ∙ l .before .loop .inv .2
+    let b = getD (a .t1 .entries) (l .loop2 .at) freeFlow in
+    let d = scan-ends (l .loop2 .inv .2) (omega arith) in
+    let e = way-leaves (liveFlows (a .t1)) (a .port) (a .mac) (l .before .loop .table) (l .before .loop .tag) b (l .loop2 .found) d
+    (sym (p .passes .ensures) ∙ not-false _ (c .before .before .if3 .left))
+    (sym (c .before .next-table .ensures) ∙ c .if4 .taken) in
+    sym e ∙ l .before .loop .inv .2
 
 vlan-after-requires : tie.Need-vlan-after-requires Inv-loop2 μ-loop2 Inv-loop μ-loop
 vlan-after-requires c κs = search needs
@@ -133,8 +144,13 @@ loop-again c =
     let p = c .before .before .before .before in
     let l = p .before .before .before in
     let a = l .before .before .before .args in
-    let on = way-on (liveFlows (a .t1)) (a .port) (a .mac) (l .before .loop .table) (l .before .loop .tag) (getD (a .t1 .entries) (l .loop2 .at) freeFlow) (l .loop2 .found) (scan-ends (l .loop2 .inv .2) (omega arith)) (sym (p .passes .ensures) ∙ not-false _ (c .before .before .before .if3 .left)) (λ e. c .before .if4 .left (c .before .before .next-table .ensures ∙ e)) in
-    (l .before .loop .inv .0, l .before .loop .inv .1, rw (c .vlan-after .ensures, c .before .before .next-table .ensures) (sym on ∙ l .before .loop .inv .2))
+    let b = getD (a .t1 .entries) (l .loop2 .at) freeFlow in
+    let d = scan-ends (l .loop2 .inv .2) (omega arith) in
+    let n = c .before .before .next-table .ensures in
+    let e = way-on (liveFlows (a .t1)) (a .port) (a .mac) (l .before .loop .table) (l .before .loop .tag) b (l .loop2 .found) d
+    (sym (p .passes .ensures) ∙ not-false _ (c .before .before .before .if3 .left))
+    (λ z. c .before .if4 .left (n ∙ z)) in
+    (l .before .loop .inv .0, l .before .loop .inv .1, rw (c .vlan-after .ensures, n) (sym e ∙ l .before .loop .inv .2))
 
 pub way-spec : {M : Type 1} → statement M
 way-spec =

@@ -27,7 +27,9 @@ returns-2 : tie.Need-returns-2
 returns-2 c =
     let f = c .before .before in
     let p = f .before .before in
-    rw (c .answered2 .ensures) (frame-refused _ _ _ _ _ (sym (p .port-allowed .ensures) ∙ not-false (p .port-allowed .result) (f .before .if1 .left)) (sym (f .is-frame .ensures) ∙ not-true (f .is-frame .result) (c .before .if2 .taken)))
+    let allowed = sym (p .port-allowed .ensures) ∙ not-false (p .port-allowed .result) (f .before .if1 .left) in
+    rw (c .answered2 .ensures)
+    (frame-refused _ _ _ _ _ allowed (sym (f .is-frame .ensures) ∙ not-true (f .is-frame .result) (c .before .if2 .taken)))
 
 answered-requires-3 : tie.Need-answered-requires-3
 answered-requires-3 c κs = search needs
@@ -36,7 +38,9 @@ returns-3 : tie.Need-returns-3
 returns-3 c =
     let f = c .before .before .before in
     let p = f .before .before in
-    rw (c .answered3 .ensures) (list-refused _ _ _ _ _ (sym (p .port-allowed .ensures) ∙ not-false (p .port-allowed .result) (f .before .if1 .left)) (sym (f .is-frame .ensures) ∙ not-false (f .is-frame .result) (c .before .before .if2 .left)) (c .before .if3 .taken))
+    let allowed = sym (p .port-allowed .ensures) ∙ not-false (p .port-allowed .result) (f .before .if1 .left) in
+    let right = sym (f .is-frame .ensures) ∙ not-false (f .is-frame .result) (c .before .before .if2 .left) in
+    rw (c .answered3 .ensures) (list-refused _ _ _ _ _ allowed right (c .before .if3 .taken))
 
 is-up-requires : tie.Need-is-up-requires
 is-up-requires c κs = search needs
@@ -49,12 +53,18 @@ returns-4 c =
     let u = c .before .before in
     let f = u .before .before .before in
     let p = f .before .before in
-    rw (c .answered4 .ensures) (port-down _ _ _ _ _ (sym (p .port-allowed .ensures) ∙ not-false (p .port-allowed .result) (f .before .if1 .left)) (sym (f .is-frame .ensures) ∙ not-false (f .is-frame .result) (u .before .before .if2 .left)) (u .before .if3 .left) (sym (u .is-up .ensures) ∙ not-true (u .is-up .result) (c .before .if4 .taken)))
+    let allowed = sym (p .port-allowed .ensures) ∙ not-false (p .port-allowed .result) (f .before .if1 .left) in
+    let right = sym (f .is-frame .ensures) ∙ not-false (f .is-frame .result) (u .before .before .if2 .left) in
+    let down = sym (u .is-up .ensures) ∙ not-true (u .is-up .result) (c .before .if4 .taken) in
+    rw (c .answered4 .ensures) (port-down _ _ _ _ _ allowed right (u .before .if3 .left) down)
 
 cast-outputs-from : tie.Need-cast-outputs-from
 cast-outputs-from c =
-    let p = c .before .before .before .before .before .before in
-    record { fits = omega (arith, port-small (p .before .before .before .args .d) (p .before .before .before .args .port) (sym (p .port-allowed .ensures) ∙ not-false (p .port-allowed .result) (c .before .before .before .before .before .if1 .left))) }
+    let e = c .before .before .before .before .before in
+    let p = e .before in
+    let a = p .before .before .before .args in
+    let allowed = sym (p .port-allowed .ensures) ∙ not-false (p .port-allowed .result) (e .if1 .left) in
+    record { fits = omega (arith, port-small (a .d) (a .port) allowed) }
 
 outputs-from-requires : tie.Need-outputs-from-requires
 outputs-from-requires c κs = search needs
@@ -70,7 +80,10 @@ returns-5 c =
     let u = c .before .before .before .before .before .before in
     let f = u .before .before .before in
     let p = f .before .before in
-    rw (c .answered5 .ensures) (port-up _ _ _ _ _ (sym (p .port-allowed .ensures) ∙ not-false (p .port-allowed .result) (f .before .if1 .left)) (sym (f .is-frame .ensures) ∙ not-false (f .is-frame .result) (u .before .before .if2 .left)) (u .before .if3 .left) (sym (u .is-up .ensures) ∙ not-false (u .is-up .result) (c .before .before .before .before .before .if4 .left)) (c .before .before .before .outputs-from .ensures))
+    let allowed = sym (p .port-allowed .ensures) ∙ not-false (p .port-allowed .result) (f .before .if1 .left) in
+    let right = sym (f .is-frame .ensures) ∙ not-false (f .is-frame .result) (u .before .before .if2 .left) in
+    let up = sym (u .is-up .ensures) ∙ not-false (u .is-up .result) (c .before .before .before .before .before .if4 .left) in
+    rw (c .answered5 .ensures) (port-up _ _ _ _ _ allowed right (u .before .if3 .left) up (c .before .before .before .outputs-from .ensures))
 
 pub frame-spec : {M : Type 1} → statement M
 frame-spec =

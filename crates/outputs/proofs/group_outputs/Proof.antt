@@ -31,7 +31,9 @@ returns-2 : tie.Need-returns-2
 returns-2 c =
     let v = c .before .before .before .before in
     let a = v .before .before .before .before .args in
-    rw (room _ (a .list .now) (v .before .before .if1 .left), group-outputs (liveGroups (a .groups)) (a .vlan) (a .id), ← v .before .members-of .ensures, ← v .group-vlan .ensures) (c .before .before .resolve .ensures)
+    rw
+    (room _ (a .list .now) (v .before .before .if1 .left), group-outputs (liveGroups (a .groups)) (a .vlan) (a .id), ← v .before .members-of .ensures, ← v .group-vlan .ensures)
+    (c .before .before .resolve .ensures)
 
 pub group-outputs-spec : {M : Type 1} → statement M
 group-outputs-spec =

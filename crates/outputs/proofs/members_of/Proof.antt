@@ -1,5 +1,7 @@
+use Rattle.rules.specs.GroupId.{groupType, hasMembers}
 use Rattle.rules.specs.Tables.{liveGroups}
-use mathlib.Core.Path.{sym, _∙_}
+use mathlib.Core.Bool.{true, false}
+use mathlib.Core.Path.{_≡_, sym, _∙_}
 use Rattle.outputs.proofs.Outputs.{members-self, members-found, members-none}
 use borrow.Author.Needs.{needs}
 use Rattle.outputs.proofs.members_of.Statement.{statement}
@@ -17,7 +19,9 @@ itself-requires c κs = search needs
 returns : tie.Need-returns
 returns c =
     let k = c .before .before .before in
-    rw (members-self (liveGroups (k .before .args .groups)) (k .before .args .id) (sym (k .group-type .ensures) ∙ c .before .before .if1 .taken), ← c .before .group-low .ensures) (c .itself .ensures)
+    rw
+    (members-self (liveGroups (k .before .args .groups)) (k .before .args .id) (sym (k .group-type .ensures) ∙ c .before .before .if1 .taken), ← c .before .group-low .ensures)
+    (c .itself .ensures)
 
 has-members-requires : tie.Need-has-members-requires
 has-members-requires c κs = search needs
@@ -28,7 +32,9 @@ members-in-requires c κs = search needs
 returns-2 : tie.Need-returns-2
 returns-2 c =
     let k = c .before .before .before .before in
-    rw (members-found (liveGroups (k .before .args .groups)) (k .before .args .id) (λ e. c .before .before .before .if1 .left (k .group-type .ensures ∙ e)) (rw (← k .group-type .ensures) (sym (c .before .before .has-members .ensures) ∙ c .before .if2 .taken))) (c .members-in .ensures)
+    let other : groupType (k .before .args .id) ≡ 0 → ⊥ = λ e. c .before .before .before .if1 .left (k .group-type .ensures ∙ e) in
+    let kind : hasMembers (groupType (k .before .args .id)) ≡ true = rw (← k .group-type .ensures) (sym (c .before .before .has-members .ensures) ∙ c .before .if2 .taken) in
+    rw (members-found (liveGroups (k .before .args .groups)) (k .before .args .id) other kind) (c .members-in .ensures)
 
 no-members-requires : tie.Need-no-members-requires
 no-members-requires c κs = search needs
@@ -36,7 +42,9 @@ no-members-requires c κs = search needs
 returns-3 : tie.Need-returns-3
 returns-3 c =
     let k = c .before .before .before .before in
-    rw (members-none (liveGroups (k .before .args .groups)) (k .before .args .id) (λ e. c .before .before .before .if1 .left (k .group-type .ensures ∙ e)) (rw (← k .group-type .ensures) (sym (c .before .before .has-members .ensures) ∙ c .before .if2 .left))) (c .no-members .ensures)
+    let other : groupType (k .before .args .id) ≡ 0 → ⊥ = λ e. c .before .before .before .if1 .left (k .group-type .ensures ∙ e) in
+    let kind : hasMembers (groupType (k .before .args .id)) ≡ false = rw (← k .group-type .ensures) (sym (c .before .before .has-members .ensures) ∙ c .before .if2 .left) in
+    rw (members-none (liveGroups (k .before .args .groups)) (k .before .args .id) other kind) (c .no-members .ensures)
 
 pub members-of-spec : {M : Type 1} → statement M
 members-of-spec =

@@ -19,7 +19,10 @@ abbrev μ-loop2 : tie.MeasureT-loop2
 μ-loop2 d ingress vlan group-vlan list groups m n size k out j₀ last id j = n - j
 
 abbrev Inv-loop : tie.InvT-loop
-Inv-loop d ingress vlan group-vlan list₀ groups m n size k₀ out₀ j₀ last₀ list k out j last = (k ≤ size) × (size ≤ 62) × (size ≡ length (lowsIn m)) × (j ≤ n) × (n ≤ 128) × (n ≡ length (liveGroups groups)) × Passed idOf (groups .count) (groups .entries) last j × Resolved d ingress (liveGroups groups) group-vlan vlan (m .count) (m .lows) list₀ k out list
+Inv-loop d ingress vlan group-vlan list₀ groups m n size k₀ out₀ j₀ last₀ list k out j last =
+    (k ≤ size) × (size ≤ 62) × (size ≡ length (lowsIn m)) × (j ≤ n) × (n ≤ 128) × (n ≡ length (liveGroups groups))
+    × Passed idOf (groups .count) (groups .entries) last j
+    × Resolved d ingress (liveGroups groups) group-vlan vlan (m .count) (m .lows) list₀ k out list
 
 abbrev μ-loop : tie.MeasureT-loop
 μ-loop d ingress vlan group-vlan list₀ groups m n size k₀ out₀ j₀ last₀ list k out j last = size - k
@@ -35,8 +38,16 @@ unfolding liveGroups lowsIn
 loop-holds c =
     let a = c .before .before .before .args in
     let l : length (a .t2 .entries) ≡ 128 = search (needs, length-mapped) in
-    let k : length (a .t6 .lows) ≡ 62 = search needs in
-    (omega arith, omega arith, live-length (c .live2 .result) (a .t6 .count) 62 (a .t6 .lows) (c .live2 .ensures) k, omega arith, omega arith, live-length (c .before .live .result) (a .t2 .count) 128 (a .t2 .entries) (c .before .live .ensures) l, passed-none idOf _ _ _, resolved-none _ _ _ _ _ _ _ _)
+    let k : length (a .t6 .lows) ≡ 62 = search needs in (
+      omega arith,
+      omega arith,
+      live-length (c .live2 .result) (a .t6 .count) 62 (a .t6 .lows) (c .live2 .ensures) k,
+      omega arith,
+      omega arith,
+      live-length (c .before .live .result) (a .t2 .count) 128 (a .t2 .entries) (c .before .live .ensures) l,
+      passed-none idOf _ _ _,
+      resolved-none _ _ _ _ _ _ _ _,
+    )
 
 mul-member-id : tie.Need-mul-member-id Inv-loop2 μ-loop2 Inv-loop μ-loop
 mul-member-id c = search needs
