@@ -23,36 +23,12 @@ pub struct Members {
 
 // ---- Group IDs
 
-fn group_type(id: u32) -> u32
-    ensures { λ r. ⌜ r ≡ groupType id ⌝ }
-{
-    id >> 28
-}
-
-fn group_vlan(id: u32) -> u32
-    ensures { λ r. ⌜ r ≡ groupVlan id ⌝ }
-{
-    (id >> 16) & 0xfff
-}
-
-fn group_low(id: u32) -> u16
-    ensures { λ r. ⌜ r ≡ groupLow id ⌝ }
-{
-    (id & 0xffff) as u16
-}
-
-fn has_members(kind: u32) -> bool
-    ensures { λ r. ⌜ r ≡ hasMembers kind ⌝ }
-{
-    (kind == 3) | (kind == 4)
-}
-
 // The ID of the group of type 0 with a VLAN and low bits.
-fn member_id(vlan: u32, low: u16) -> u32
+fn member_id(vlan: u16, low: u16) -> u32
     requires { ⌜ vlan < 4096 ⌝ }
     ensures { λ r. ⌜ r ≡ memberId vlan low ⌝ }
 {
-    vlan * 65536 + low as u32
+    vlan as u32 * 65536 + low as u32
 }
 
 // ---- Writing outputs
@@ -145,11 +121,11 @@ fn itself(low: u16) -> Members
 fn members_of(groups: GroupTable, id: u32) -> Members
     ensures { λ r. ⌜ lowsIn r ≡ membersOf (liveGroups groups) id ⌝ }
 {
-    let kind = group_type(id);
+    let kind = group_id::type_of(id);
     if kind == 0 {
-        return itself(group_low(id));
+        return itself(group_id::low_of(id));
     }
-    if has_members(kind) {
+    if group_id::has_members(kind) {
         return members_in(groups, id);
     }
     no_members()
@@ -169,7 +145,7 @@ fn resolve(
     groups: GroupTable,
     ingress: u64,
     vlan: u16,
-    group_vlan: u32,
+    group_vlan: u16,
     m: Members,
     list: &mut [u16],
 ) -> usize
@@ -198,7 +174,7 @@ fn resolve(
             let g = groups.entries[j];
             if g.id == id {
                 let pop = number(g.pop_vlan);
-                out = send(d, ingress, group_low(id), vlan, pop, out, list);
+                out = send(d, ingress, group_id::low_of(id), vlan, pop, out, list);
             }
         }
     }
@@ -221,5 +197,5 @@ pub fn group_outputs(
         return 0;
     }
     let m = members_of(groups, id);
-    resolve(d, groups, ingress, vlan, group_vlan(id), m, list)
+    resolve(d, groups, ingress, vlan, group_id::vlan_of(id), m, list)
 }

@@ -8,7 +8,6 @@ use Rattle.outputs.proofs.group_outputs.Statement.{statement}
 use Rattle.outputs.proofs.group_outputs.Tie as tie
 use Rattle.outputs.proofs.group_outputs.Reads as reads
 use Rattle.outputs.proofs.group_outputs.Lts as lts
-use Rattle.outputs.proofs.group_vlan.Reads as group-vlan-reads
 use Rattle.outputs.proofs.members_of.Reads as members-of-reads
 use Rattle.outputs.proofs.resolve.Reads as resolve-reads
 
@@ -18,11 +17,11 @@ returns c = no-room _ (c .before .before .args .list .now) (c .if1 .taken)
 members-of-requires : tie.Need-members-of-requires
 members-of-requires c κs = search needs
 
-group-vlan-requires : tie.Need-group-vlan-requires
-group-vlan-requires c κs = search needs
+vlan-of-requires : tie.Need-vlan-of-requires
+vlan-of-requires c κs = search needs
 
 resolve-requires : tie.Need-resolve-requires
-resolve-requires c κs = (rw (c .before .group-vlan .ensures) (vlan-below _), search needs)
+resolve-requires c κs = (rw (c .before .vlan-of .ensures) (vlan-below _), search needs)
 
 same-length : tie.Need-same-length
 same-length c = search needs
@@ -32,7 +31,7 @@ returns-2 c =
     let v = c .before .before .before .before in
     let a = v .before .before .before .before .args in
     rw
-    (room _ (a .list .now) (v .before .before .if1 .left), group-outputs (liveGroups (a .groups)) (a .vlan) (a .id), ← v .before .members-of .ensures, ← v .group-vlan .ensures)
+    (room _ (a .list .now) (v .before .before .if1 .left), group-outputs (liveGroups (a .groups)) (a .vlan) (a .id), ← v .before .members-of .ensures, ← v .vlan-of .ensures)
     (c .before .before .resolve .ensures)
 
 pub group-outputs-spec : {M : Type 1} → statement M
@@ -41,7 +40,7 @@ group-outputs-spec =
     (tie.spec
     returns
     members-of-requires
-    group-vlan-requires
+    vlan-of-requires
     resolve-requires
     same-length
     returns-2)

@@ -99,8 +99,8 @@ element-copy-out-g-2 c = search needs
 number-requires : tie.Need-number-requires Inv-loop2 μ-loop2 Inv-loop μ-loop
 number-requires c κs = search needs
 
-group-low-requires : tie.Need-group-low-requires Inv-loop2 μ-loop2 Inv-loop μ-loop
-group-low-requires c κs = search needs
+low-of-requires : tie.Need-low-of-requires Inv-loop2 μ-loop2 Inv-loop μ-loop
+low-of-requires c κs = search needs
 
 send-requires : tie.Need-send-requires Inv-loop2 μ-loop2 Inv-loop μ-loop
 send-requires c κs = search needs
@@ -126,7 +126,7 @@ loop-again c =
       p .loop2 .inv .1,
       resolved-sent _ _ _ _ _ _ _ _ (l .loop .inv .7) (omega arith) (i .member-id .ensures) g
           (passed-here idOf (p .loop2 .inv .1) noGroup (omega arith) (f .if3 .taken))
-          (output-is _ (i .member-id .result) _ _ g (f .if3 .taken) (c .before .before .before .before .group-low .ensures) (c .before .before .before .before .before .number .ensures))
+          (output-is _ (i .member-id .result) _ _ g (f .if3 .taken) (c .before .before .before .before .low-of .ensures) (c .before .before .before .before .before .number .ensures))
           (omega arith) (c .before .before .send .ensures),
     )
 
@@ -204,7 +204,7 @@ resolve-spec =
     mul-g-2
     element-copy-out-g-2
     number-requires
-    group-low-requires
+    low-of-requires
     send-requires
     loop-less
     loop-again
