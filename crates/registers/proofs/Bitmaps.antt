@@ -64,5 +64,5 @@ count-small ports e = leb-true ports 62 (and-right (leb 1 ports) _ e)
 pub port-small : (d : Registers) (port : ℕ) → portAllowed d port ≡ true → port ≤ 62
 unfolding portAllowed
 port-small d port e =
-    let l = and-left _ (leb port (d .ports)) e in
+    let l : portCountAllowed (d .ports) && leb 1 port ≡ true = and-left _ (leb port (d .ports)) e in
     omega (arith, leb-true port (d .ports) (and-right (portCountAllowed (d .ports) && leb 1 port) _ e), count-small (d .ports) (and-left _ (leb 1 port) l))

@@ -4,7 +4,8 @@ use mathlib.Core.Bool.{Bool, true, false, _&&_}
 use mathlib.Core.Path.{_≡_}
 use lib.Dec.{ltb, leb, eqb}
 use Rattle.rules.specs.Ring.{outstanding, advance}
-use Rattle.rules.specs.Registers.{isWide}
+use Rattle.rules.specs.Registers.{isWide, joined}
+use Rattle.rules.specs.declared.Registers.{Registers}
 use Rattle.rules.specs.declared.Ring.{Ring}
 use Rattle.rules.specs.declared.Access.{Access}
 use Rattle.rules.specs.declared.Access.the-variants.{NotAllowed, Reserved, Whole, Lower, Upper}
@@ -27,3 +28,11 @@ Bounded Reserved v = Unit {0}
 Bounded (Whole r) v = isWide r ≡ false → v < 2 ^ 32
 Bounded (Lower r) v = v < 2 ^ 32
 Bounded (Upper r) v = (isWide r ≡ true) × (v < 2 ^ 32)
+
+-- the number that reaches a register
+unfoldable pub numberFor : Registers → Access → ℕ → ℕ
+numberFor d NotAllowed v = v
+numberFor d Reserved v = v
+numberFor d (Whole r) v = v
+numberFor d (Lower r) v = v
+numberFor d (Upper r) v = joined d r v

@@ -4,7 +4,7 @@ use rules::Answer;
 use rules::Located;
 use rules::Register;
 ghost use mathlib.Core.Path.{_≡_};
-ghost use Prim.Native.Nat.{_-_};
+ghost use Prim.Native.Nat.{_+_, _-_, _≤_};
 ghost use Rattle.rules.specs.Answers.{number};
 ghost use Rattle.rules.specs.Registers.{registerAt, isWide, upperOf, narrowAt, coveredBy, wideAt, access as Registers·access, accessRefusal};
 ghost use Rattle.registers.specs.Shapes.{isNarrow, isEight};
@@ -69,12 +69,19 @@ fn upper_of(before: Located) -> Access
     }
 }
 
-// What 4 bytes reach.
-fn narrow_at(here: Located, before: Located) -> Access
-    ensures { λ a. ⌜ a ≡ narrowAt here before ⌝ }
+// 4 bytes less, or 0: nothing starts before the first register.
+fn before(offset: u64) -> u64
+    ensures { λ r. ⌜ r ≡ offset - 4 ⌝ }
 {
-    match here {
-        Located::Nowhere => upper_of(before),
+    if offset < 4 { 0 } else { offset - 4 }
+}
+
+// What 4 bytes reach.
+fn narrow_at(offset: u64) -> Access
+    ensures { λ a. ⌜ a ≡ narrowAt (registerAt offset) (registerAt (offset - 4)) ⌝ }
+{
+    match register_at(offset) {
+        Located::Nowhere => upper_of(register_at(before(offset))),
         Located::Here(r) => {
             if is_wide(r) {
                 return Access::Lower(r);
@@ -94,11 +101,12 @@ fn covered_by(after: Located) -> Access
 }
 
 // What 8 bytes reach: a register of 4 among them refuses the access.
-fn wide_at(here: Located, after: Located) -> Access
-    ensures { λ a. ⌜ a ≡ wideAt here after ⌝ }
+fn wide_at(offset: u64) -> Access
+    requires { ⌜ offset + 8 ≤ 0x2000 ⌝ }
+    ensures { λ a. ⌜ a ≡ wideAt (registerAt offset) (registerAt (offset + 4)) ⌝ }
 {
-    match here {
-        Located::Nowhere => covered_by(after),
+    match register_at(offset) {
+        Located::Nowhere => covered_by(register_at(offset + 4)),
         Located::Here(r) => {
             if is_wide(r) {
                 return Access::Whole(r);
@@ -106,13 +114,6 @@ fn wide_at(here: Located, after: Located) -> Access
             Access::NotAllowed
         }
     }
-}
-
-// 4 bytes less, or 0: nothing starts before the first register.
-fn before(offset: u64) -> u64
-    ensures { λ r. ⌜ r ≡ offset - 4 ⌝ }
-{
-    if offset < 4 { 0 } else { offset - 4 }
 }
 
 fn is_narrow(offset: u64, width: u64) -> bool
@@ -131,10 +132,10 @@ pub fn access(offset: u64, width: u64) -> Access
     ensures { λ a. ⌜ a ≡ Registers·access offset width ⌝ }
 {
     if is_narrow(offset, width) {
-        return narrow_at(register_at(offset), register_at(before(offset)));
+        return narrow_at(offset);
     }
     if is_eight(offset, width) {
-        return wide_at(register_at(offset), register_at(offset + 4));
+        return wide_at(offset);
     }
     Access::NotAllowed
 }

@@ -23,7 +23,7 @@ ghost use Rattle.rules.specs.Ring.{zeroRing};
 ghost use Rattle.rules.specs.Registers.{isWide, valueOf, readValue, latchOf, latchEffect, taken as Registers·taken, unlessRefused, store as Registers·store, writeTo, write as Registers·write, freshRegisters, withLinks, withTest, withTest64, withEnable, withRing, linkEffect, resetRegisters};
 ghost use Rattle.rules.specs.Switch.{freshRefusal, linkRefusal};
 ghost use Rattle.registers.specs.Outcomes.{Reads, Gives, Changes, inRing, done as Outcomes·done};
-ghost use Rattle.registers.specs.Shapes.{Bounded};
+ghost use Rattle.registers.specs.Shapes.{Bounded, numberFor};
 
 // What a register read gives.
 pub struct Reading {
@@ -328,11 +328,26 @@ fn taken(width: u64, v: u64) -> u64
     if width == 4 { v % 0x1_0000_0000 } else { v }
 }
 
-// A write of a taken number to what it reaches.
+// The number that reaches a register: what is written to an upper half is joined to the latch.
+fn number_for(d: Registers, a: Access, v: u64) -> u64
+    requires { ⌜ Bounded a v ⌝ }
+    ensures { λ n. ⌜ n ≡ numberFor d a v ⌝ }
+{
+    match a {
+        Access::NotAllowed => v,
+        Access::Reserved => v,
+        Access::Whole(_) => v,
+        Access::Lower(_) => v,
+        Access::Upper(r) => latch_of(d, r) as u64 + 0x1_0000_0000 * v,
+    }
+}
+
+// A write of a taken number to what it reaches. One call of `store` keeps the compiled code to one copy of the registers.
 fn write_to(d: Registers, a: Access, v: u64) -> Written
     requires { ⌜ Bounded a v ⌝ }
     ensures { λ w. ⌜ Gives w (unlessRefused d (writeTo d a v)) ⌝ }
 {
+    let n = number_for(d, a, v);
     match a {
         Access::NotAllowed => Written {
             answer: Answer::AccessNotAllowed,
@@ -341,9 +356,8 @@ fn write_to(d: Registers, a: Access, v: u64) -> Written
             resets: false,
         },
         Access::Reserved => done(d),
-        Access::Whole(r) => store(d, r, v),
         Access::Lower(r) => done(latch(d, r, v as u32)),
-        Access::Upper(r) => store(d, r, latch_of(d, r) as u64 + 0x1_0000_0000 * v),
+        Access::Whole(r) | Access::Upper(r) => store(d, r, n),
     }
 }
 

@@ -3,37 +3,55 @@ use borrow.Author.Needs.{needs}
 use Rattle.registers.proofs.access.wide_at.Statement.{statement}
 use Rattle.registers.proofs.access.wide_at.Tie as tie
 
+register-at-requires : tie.Need-register-at-requires
+register-at-requires c κs = search needs
+
 enum-told : tie.Need-enum-told
 enum-told c = search needs
+
+add-register-at : tie.Need-add-register-at
+add-register-at c = search needs
+
+register-at-requires-2 : tie.Need-register-at-requires-2
+register-at-requires-2 c κs = search needs
 
 covered-by-requires : tie.Need-covered-by-requires
 covered-by-requires c κs = search needs
 
-enum-known-here : tie.Need-enum-known-here
-enum-known-here c = search needs
+enum-known-r : tie.Need-enum-known-r
+enum-known-r c = search needs
 
 is-wide-requires : tie.Need-is-wide-requires
 is-wide-requires c κs = search needs
 
 returns : tie.Need-returns
 unfolding wideAt
-returns c = rw (c .before .before .before .here .given .1, ← c .before .is-wide .ensures, c .if1 .taken)
+returns c =
+    let k = c .before .before .before in
+    rw (← k .before .before .register-at .ensures, k .r .given .1, ← c .before .is-wide .ensures, c .if1 .taken)
 
 returns-2 : tie.Need-returns-2
 unfolding wideAt
-returns-2 c = rw (c .before .enum-told .given .1) (c .covered-by .ensures)
+returns-2 c =
+    let e = c .before .before in
+    rw (← e .before .before .register-at .ensures, e .enum-told .given .1, ← c .before .register-at2 .ensures) (c .covered-by .ensures)
 
 returns-3 : tie.Need-returns-3
 unfolding wideAt
-returns-3 c = rw (c .before .before .before .here .given .1, ← c .before .is-wide .ensures, c .if1 .left)
+returns-3 c =
+    let k = c .before .before .before in
+    rw (← k .before .before .register-at .ensures, k .r .given .1, ← c .before .is-wide .ensures, c .if1 .left)
 
 pub wide-at-spec : {M : Type 1} → statement M
 wide-at-spec =
     tie.close
     (tie.spec
+    register-at-requires
     enum-told
+    add-register-at
+    register-at-requires-2
     covered-by-requires
-    enum-known-here
+    enum-known-r
     is-wide-requires
     returns
     returns-2
