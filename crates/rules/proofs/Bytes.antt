@@ -1,13 +1,13 @@
 -- Little-endian numbers over any width, and a list written over a slice.
 -- Assumes nothing.
-use Prim.Native.Nat.{ℕ, zero, suc, _+_, _/_, _%_, _≤_, _<_, _^_}
+use Prim.Native.Nat.{ℕ, zero, suc, _+_, _/_, _%_, _-_, _≤_, _<_, _^_}
 use mathlib.Core.Path.{_≡_, refl, ap, _∙_}
 use mathlib.Core.List.{List, [], _∷_, _++_, append-assoc}
 use native.Mathlib.Omega.{arith}
 use native.Mathlib.Nat.{pow-suc, add-zero, one-le-pow, mod-eq-of-lt}
 use lib.Arith.{mod-mul}
 use lib.ListN.{length, length-drop, length-append, length-take, getD, take, drop, set, take-append-drop}
-use lib.Seq.{getD-drop, take-suc-set, drop-set-lt, take-append-seam}
+use lib.Seq.{take-all, getD-drop, take-suc-set, drop-set-lt, take-append-seam}
 use lib.Dec.{lit<}
 use Rattle.rules.specs.Bytes.{le, leAt, bytesOf, splice}
 
@@ -80,3 +80,7 @@ splice-nil at s = rw add-zero (take-append-drop at s)
 pub take-splice : (new s : List ℕ) → take (length new) (splice 0 new s) ≡ new
 unfolding splice
 take-splice new s = take-append-seam new _
+
+-- a part that goes to the end
+pub to-end : (s : List ℕ) (at : ℕ) → take (length s - at) (drop at s) ≡ drop at s
+to-end s at = take-all (length s - at) (drop at s) (rw length-drop (omega arith))

@@ -7,8 +7,9 @@ use mathlib.Core.List.{List, [], _∷_}
 use native.Mathlib.Omega.{arith}
 use native.Mathlib.Numerals.{add-one}
 use native.Mathlib.Nat.{le-div-iff-mul-le, div-lt-iff-lt-mul, mul-le-mul-left, sub-zero}
+use Rattle.rules.proofs.Cases.{and-left}
 use lib.ListN.{length, getD, take, drop, drop-of-length-le, length-drop}
-use lib.Seq.{drop-cons, drop-drop, take-all}
+use lib.Seq.{drop-cons, drop-drop}
 use lib.Dec.{eqb, ltb}
 use borrow.Author.Tests.{eq-eqb, ne-eqb, lt-ltb, le-ltb, ltb-true}
 use Rattle.text.specs.declared.Numeral.the-variants.{Malformed, Number}
@@ -95,14 +96,6 @@ module _ (base v i : ℕ) (s : List ℕ) (h : i < length s) where
   pub no-digit : base ≤ digitOf (getD s i 0) → allDigits base (drop i s) ≡ false
   unfolding allDigits
   no-digit l = rw (drop-cons s i 0 h, le-ltb (digitOf (getD s i 0)) base l)
-
-and-left : (a b : Bool) → a && b ≡ true → a ≡ true
-and-left true b e = refl
-and-left false b e = e
-
--- a part that goes to the end
-pub to-end : (s : List ℕ) (at : ℕ) → take (length s - at) (drop at s) ≡ drop at s
-to-end s at = take-all (length s - at) (drop at s) (rw length-drop (omega arith))
 
 pub hex-long : (s : List ℕ) → isHex s ≡ true → 2 < length s
 unfolding isHex

@@ -6,8 +6,8 @@ use mathlib.Core.Bool.{true}
 use mathlib.Core.List.{List}
 use native.Mathlib.Omega.{arith}
 use native.Mathlib.Nat.{pow-le-pow-right, add-zero, sub-zero}
-use lib.ListN.{length, length-drop, getD, take, drop, set, drop-of-length-le}
-use lib.Seq.{drop-cons, getD-drop, take-all}
+use lib.ListN.{length, getD, drop, set, drop-of-length-le}
+use lib.Seq.{drop-cons, getD-drop}
 use lib.Dec.{leb}
 use borrow.Author.Tests.{leb-true, le-leb, lt-leb}
 use Rattle.rules.specs.Bytes.{le, bytesOf, splice, inside}
@@ -48,10 +48,6 @@ reading-ends m k v s ev h =
     let q : m - k ≡ m = omega arith in
     let z : k ≡ 0 = omega arith in
     ev ∙ rw (q, z)
-
--- a part that goes to the end
-pub to-end : (s : List ℕ) (at : ℕ) → take (length s - at) (drop at s) ≡ drop at s
-to-end s at = take-all (length s - at) (drop at s) (rw length-drop (omega arith))
 
 -- ---- Writing
 

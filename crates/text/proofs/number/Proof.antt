@@ -3,7 +3,8 @@ use denote.Ref.{now}
 use lib.ListN.{length}
 use mathlib.Core.Path.{sym, _∙_}
 use borrow.Author.Tests.{eq-eqb, ne-eqb}
-use Rattle.text.proofs.Laws.{hex-long, to-end}
+use Rattle.rules.proofs.Bytes.{to-end}
+use Rattle.text.proofs.Laws.{hex-long}
 use Rattle.text.specs.Text.{numberOf}
 use native.Mathlib.Omega.{arith}
 use borrow.Author.Needs.{needs}

@@ -1,4 +1,4 @@
-use Rattle.wire.proofs.Numbers.{to-end}
+use Rattle.rules.proofs.Bytes.{to-end}
 use Rattle.rules.specs.Bytes.{part}
 use denote.Ref.{now}
 use lib.Seq.{take-nil, take-all}

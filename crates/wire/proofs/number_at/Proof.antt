@@ -1,5 +1,4 @@
-use Rattle.rules.proofs.Bytes.{le-nil}
-use Rattle.wire.proofs.Numbers.{to-end}
+use Rattle.rules.proofs.Bytes.{le-nil, to-end}
 use Rattle.rules.specs.Bytes.{leAt}
 use denote.Ref.{now}
 use lib.ListN.{length, drop-of-length-le}
