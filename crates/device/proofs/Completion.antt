@@ -1,12 +1,13 @@
 -- A slot completed, on plain values.
 -- Assumes nothing.
-use Prim.Native.Nat.{ℕ, _+_, _≤_}
+use Prim.Native.Nat.{ℕ, _+_, _≤_, _<_}
 use mathlib.Core.Bool.{Bool, true}
 use mathlib.Core.Path.{_≡_, refl, sym, ap, _∙_}
 use mathlib.Core.List.{List}
 use native.Mathlib.Omega.{arith}
 use lib.ListN.{length}
-use borrow.Author.Tests.{le-leb}
+use lib.Dec.{ltb}
+use borrow.Author.Tests.{le-leb, lt-ltb}
 use Rattle.rules.specs.Choose.{choose}
 use Rattle.rules.specs.Bytes.{inside, bytesOf, splice}
 use Rattle.rules.specs.Ring.{completeEffect, completeInterrupt}
@@ -56,10 +57,11 @@ result d x s completed raised next =
 
 pub completes : (d : Device) (x : Executed) (s : Slot) (at completed : ℕ) (raised : Bool) (next : Ring) (memory memory′ buffer buffer′ : List ℕ)
     → at + 32 ≤ length memory → Recorded x s (d .registers) (d .flows) (d .groups) memory buffer buffer′ → completed ≡ completion (x .status)
-    → memory′ ≡ put (at + 30) 2 completed memory → raised ≡ completeInterrupt (d .registers .ring) → next ≡ completeEffect (d .registers .ring)
+    → memory′ ≡ put (at + 30) 2 completed memory → raised ≡ completeInterrupt (d .registers .ring) → d .registers .ring .credits < 65536
+    → next ≡ choose (ltb (d .registers .ring .credits) 65536) (completeEffect (d .registers .ring)) (d .registers .ring)
     → Completes (result d x s completed raised next) d s at memory memory′ buffer buffer′
 unfolding result withRing
-completes d x s at completed raised next memory memory′ buffer buffer′ h r c m i n =
+completes d x s at completed raised next memory memory′ buffer buffer′ h r c m i room n =
     let k : completed ≡ completion _ = c ∙ ap completion (r .carries .status-is) in
     record {
       answer-is = refl;
@@ -68,7 +70,7 @@ completes d x s at completed raised next memory memory′ buffer buffer′ h r c
       completed-is = k;
       length-is = refl;
       outputs-are = refl;
-      registers-are = rw n;
+      registers-are = let q : next ≡ completeEffect (d .registers .ring) = n ∙ rw (lt-ltb _ _ room) in rw q;
       tables-are = r .carries .tables-are;
       memory-is = m ∙ (put-inside (at + 30) 2 completed memory (omega arith) ∙ rw k);
       buffer-is = r .buffer-is ∙ rw (r .carries .status-is);

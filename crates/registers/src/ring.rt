@@ -4,6 +4,8 @@ use rules::Ring;
 ghost use mathlib.Core.Path.{_≡_};
 ghost use mathlib.Core.Bool.{true, false};
 ghost use Prim.Native.Nat.{_<_};
+ghost use lib.Dec.{ltb};
+ghost use Rattle.rules.specs.Choose.{choose};
 ghost use Rattle.rules.specs.Ring.{zeroRing, distance as Ring·distance, outstanding as Ring·outstanding, advance as Ring·advance, headRefusal, headEffect, baseRefusal, baseEffect, powerUpTo, sizeRefusal, sizeEffect, creditsRefusal, creditsEffect, creditsInterrupt, ctrlEffect, nextSlot, completeEffect, completeInterrupt};
 ghost use Rattle.rules.specs.Registers.{baseLatched};
 ghost use Rattle.registers.specs.Outcomes.{RingGives, refusedRing, acceptedRing};
@@ -184,11 +186,13 @@ fn next_slot(size: u32, i: u32) -> u32
     }
 }
 
-// A slot consumed. Process refuses at 65,536 credits, so one more fits.
+// A slot consumed. Process refuses at 65,536 credits, so one more fits; a ring that has them is left as it is.
 pub fn complete(r: Ring) -> Ring
-    requires { ⌜ r .credits < 65536 ⌝ }
-    ensures { λ n. ⌜ n ≡ completeEffect r ⌝ }
+    ensures { λ n. ⌜ n ≡ choose (ltb (r .credits) 65536) (completeEffect r) r ⌝ }
 {
+    if 65536 <= r.credits {
+        return r;
+    }
     let mut next = r;
     next.tail = next_slot(r.size, r.tail);
     next.credits = r.credits + 1;

@@ -40,7 +40,7 @@ same-length-2 c = search needs
 
 returns : tie.Need-returns
 unfolding result
-returns c = completes _ _ _ _ _ _ _ _ _ _ _ (c .before .before .before .before .before .before .before .before .before .before .before .before .before .before .before .before .before .before .before .before .before .pre .0) (c .before .before .before .before .before .before .before .before .before .before .before .before .carry-and-record .ensures) (c .before .before .before .before .before .before .before .before .before .completion .ensures) (c .before .before .before .before .before .before .before .put16 .ensures) (c .before .complete-interrupt .ensures) (c .before .before .before .before .complete .ensures)
+returns c = completes _ _ _ _ _ _ _ _ _ _ _ (c .before .before .before .before .before .before .before .before .before .before .before .before .before .before .before .before .before .before .before .before .before .pre .0) (c .before .before .before .before .before .before .before .before .before .before .before .before .carry-and-record .ensures) (c .before .before .before .before .before .before .before .before .before .completion .ensures) (c .before .before .before .before .before .before .before .put16 .ensures) (c .before .complete-interrupt .ensures) (c .before .before .before .before .before .before .before .before .before .before .before .before .before .before .before .before .before .before .before .before .before .pre .3) (c .before .before .before .before .complete .ensures)
 
 pub complete-spec : {M : Type 1} → statement M
 complete-spec =
