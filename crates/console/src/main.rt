@@ -1,0 +1,5 @@
+// Runs a script of calls (docs/CONSOLE.md).
+
+fn main() {
+    script::run();
+}
