@@ -1,0 +1,6 @@
+// Frames over all three tables and all group types. The script is `stdin`, and `stdout` is what the second implementation of the
+// device prints for it (docs/CONSOLE.md).
+
+fn main() {
+    script::run();
+}
