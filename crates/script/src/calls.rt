@@ -136,7 +136,8 @@ fn write(d: Device, s: &[u8], line: u64) -> Device {
     after
 }
 
-fn within(n: usize, s: &[u8]) -> usize
+// As much of a number as a slice has bytes.
+pub fn within(n: usize, s: &[u8]) -> usize
     ensures { λ r. ⌜ r ≤ length (now (s .entry)) ⌝ }
 {
     if n < s.len() { n } else { s.len() }

@@ -1,4 +1,7 @@
 // Byte strings in hexadecimal digits, two to a byte; - for none.
+ghost use mathlib.Core.Path.{_≡_};
+ghost use Rattle.text.specs.Text.{allDigits};
+ghost use Rattle.script.specs.Hex.{isDash, counted, pairOf, byteOf, BytesOf};
 
 // The bytes that a word stands for, counted.
 pub enum Counted {
@@ -6,33 +9,12 @@ pub enum Counted {
     Bytes(usize),
 }
 
-// What a byte counts as a digit; 16 for none.
-fn nibble(b: u8) -> u8 {
-    if b < 48 {
-        return 16;
-    }
-    if b < 58 {
-        return b - 48;
-    }
-    if b < 65 {
-        return 16;
-    }
-    if b < 71 {
-        return b - 55;
-    }
-    if b < 97 {
-        return 16;
-    }
-    if b < 103 {
-        return b - 87;
-    }
-    16
-}
-
-fn all_digits(s: &[u8]) -> bool {
+fn all_digits(s: &[u8]) -> bool
+    ensures { λ r. ⌜ r ≡ allDigits 16 (now (s .entry)) ⌝ }
+{
     let mut i = 0;
     while i < s.len() {
-        if 16 <= nibble(s[i]) {
+        if 16 <= text::digit(s[i]) {
             return false;
         }
         i += 1;
@@ -40,9 +22,20 @@ fn all_digits(s: &[u8]) -> bool {
     true
 }
 
+fn is_dash(s: &[u8]) -> bool
+    ensures { λ r. ⌜ r ≡ isDash (now (s .entry)) ⌝ }
+{
+    if s.len() == 1 {
+        return s[0] == 45;
+    }
+    false
+}
+
 // How many bytes a word stands for.
-pub fn count(s: &[u8]) -> Counted {
-    if check::same(s, b"-") {
+pub fn count(s: &[u8]) -> Counted
+    ensures { λ r. ⌜ r ≡ counted (now (s .entry)) ⌝ }
+{
+    if is_dash(s) {
         return Counted::Bytes(0);
     }
     if s.len() == 0 {
@@ -51,25 +44,30 @@ pub fn count(s: &[u8]) -> Counted {
     if s.len() % 2 != 0 {
         return Counted::Malformed;
     }
-    if !all_digits(s) {
-        return Counted::Malformed;
+    if all_digits(s) {
+        return Counted::Bytes(s.len() / 2);
     }
-    Counted::Bytes(s.len() / 2)
+    Counted::Malformed
 }
 
-fn pair(high: u8, low: u8) -> u8 {
-    let h = nibble(high);
-    let l = nibble(low);
-    if h < 16 {
-        if l < 16 {
-            return h * 16 + l;
-        }
+fn pair(high: u8, low: u8) -> u8
+    ensures { λ r. ⌜ r ≡ pairOf high low ⌝ }
+{
+    let h = text::digit(high);
+    if 16 <= h {
+        return 0;
     }
-    0
+    let l = text::digit(low);
+    if 16 <= l {
+        return 0;
+    }
+    (h * 16 + l) as u8
 }
 
 // The byte of this number, counted from 0; 0 past the last.
-fn byte(s: &[u8], i: usize) -> u8 {
+fn byte(s: &[u8], i: usize) -> u8
+    ensures { λ r. ⌜ r ≡ byteOf (now (s .entry)) i ⌝ }
+{
     if i < s.len() / 2 {
         return pair(s[2 * i], s[2 * i + 1]);
     }
@@ -77,7 +75,9 @@ fn byte(s: &[u8], i: usize) -> u8 {
 }
 
 // The bytes that a word stands for, as many as there is room for.
-pub fn bytes(s: &[u8], out: &mut [u8]) {
+pub fn bytes(s: &[u8], out: &mut [u8])
+    ensures { λ _. ⌜ BytesOf (now (s .entry)) (now (out .exit)) ⌝ }
+{
     let mut i = 0;
     while i < out.len() {
         out[i] = byte(s, i);

@@ -9,8 +9,6 @@ mod words;
 
 use lines::Reader;
 use rules::Device;
-ghost use Prim.Native.Nat.{_≤_};
-ghost use lib.ListN.{length};
 
 // The guest memory's size, and the device once there is one.
 struct Console {
@@ -26,12 +24,6 @@ struct Script {
     more: bool,
 }
 
-fn within(n: usize, s: &[u8]) -> usize
-    ensures { λ r. ⌜ r ≤ length (now (s .entry)) ⌝ }
-{
-    if n < s.len() { n } else { s.len() }
-}
-
 // memory N
 fn run_memory(p: Console, s: &[u8], line: u64, memory: &mut [u8]) -> Console {
     let n = words::arguments(s, 2);
@@ -43,7 +35,7 @@ fn run_memory(p: Console, s: &[u8], line: u64, memory: &mut [u8]) -> Console {
         print::complain(line, b"N is at most 1048576");
         return p;
     }
-    let size = within(n.a as usize, memory);
+    let size = calls::within(n.a as usize, memory);
     calls::clear(&mut memory[0..size]);
     let mut q = p;
     q.memory = size;
@@ -93,7 +85,7 @@ fn run_line(
     if check::same(name, b"fresh") {
         return run_fresh(p, s, line);
     }
-    let size = within(p.memory, memory);
+    let size = calls::within(p.memory, memory);
     if calls::on_memory(s, line, &mut memory[0..size]) {
         return p;
     }
@@ -121,7 +113,7 @@ fn run_taken(
         print::complain(r.lines, b"longer than 65535 bytes");
         return p;
     }
-    let used = within(r.used, line);
+    let used = calls::within(r.used, line);
     run_line(p, &line[0..used], r.lines, memory, buffer, list)
 }
 

@@ -63,7 +63,7 @@ pub fn count(s: &[u8]) -> usize
 }
 
 // What a byte counts as a digit; 16 for none.
-fn digit(b: u8) -> u64
+pub fn digit(b: u8) -> u64
     ensures { λ r. ⌜ r ≡ digitOf b ⌝ }
 {
     if b < 48 {

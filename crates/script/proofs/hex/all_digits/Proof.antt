@@ -1,11 +1,15 @@
-use lib.ListN.{length}
-use Prim.Native.Nat.{_-_, _≤_}
+use Rattle.text.proofs.Laws.{no-digit, digits-next, digits-end}
+use Rattle.text.specs.Text.{allDigits}
+use mathlib.Core.Path.{_≡_, sym, _∙_}
+use lib.ListN.{length, drop}
+use denote.Ref.{now}
+use Prim.Native.Nat.{_-_}
 use borrow.Author.Needs.{needs}
 use Rattle.script.proofs.hex.all_digits.Statement.{statement}
 use Rattle.script.proofs.hex.all_digits.Tie as tie
 
 abbrev Inv-loop : tie.InvT-loop
-Inv-loop s i₀ i = i ≤ length s
+Inv-loop s i₀ i = allDigits 16 s ≡ allDigits 16 (drop i s)
 
 abbrev μ-loop : tie.MeasureT-loop
 μ-loop s i₀ i = length s - i
@@ -13,14 +17,17 @@ abbrev μ-loop : tie.MeasureT-loop
 loop-holds : tie.Need-loop-holds Inv-loop μ-loop
 loop-holds c = search needs
 
-shared-slice-read-nibble : tie.Need-shared-slice-read-nibble Inv-loop μ-loop
-shared-slice-read-nibble c = search needs
+shared-slice-read-digit : tie.Need-shared-slice-read-digit Inv-loop μ-loop
+shared-slice-read-digit c = search needs
 
-nibble-requires : tie.Need-nibble-requires Inv-loop μ-loop
-nibble-requires c κs = search needs
+digit-requires : tie.Need-digit-requires Inv-loop μ-loop
+digit-requires c κs = search needs
 
 returns : tie.Need-returns Inv-loop μ-loop
-returns c = search needs
+returns c =
+    let l = c .before .before .before .before in
+    let s = now (l .before .before .args .s) in
+    sym (l .loop .inv ∙ no-digit 16 0 (l .loop .i) s (c .before .before .before .loop-test .taken) (rw (← c .before .digit .ensures) (c .if1 .taken)))
 
 add-i : tie.Need-add-i Inv-loop μ-loop
 add-i c = search needs
@@ -29,10 +36,16 @@ loop-less : tie.Need-loop-less Inv-loop μ-loop
 loop-less c = search needs
 
 loop-again : tie.Need-loop-again Inv-loop μ-loop
-loop-again c = search needs
+loop-again c =
+    let l = c .before .before .before .before in
+    let s = now (l .before .before .args .s) in
+    l .loop .inv ∙ digits-next 16 0 (l .loop .i) s (c .before .before .before .loop-test .taken) (rw (← c .before .digit .ensures) (c .if1 .left))
 
 returns-2 : tie.Need-returns-2 Inv-loop μ-loop
-returns-2 c = search needs
+returns-2 c =
+    let l = c .before in
+    let s = now (l .before .before .args .s) in
+    sym (l .loop .inv ∙ digits-end 16 0 (l .loop .i) s (c .loop-test .left))
 
 pub all-digits-spec : {M : Type 1} → statement M
 all-digits-spec =
@@ -41,8 +54,8 @@ all-digits-spec =
     Inv-loop
     μ-loop
     loop-holds
-    shared-slice-read-nibble
-    nibble-requires
+    shared-slice-read-digit
+    digit-requires
     returns
     add-i
     loop-less
