@@ -1,0 +1,60 @@
+use mathlib.Core.Path.{_≡_}
+use Rattle.replay.proofs.Moved.{Shifting, shift-starts, shift-goes-on}
+use Prim.Native.Nat.{_-_, _≤_}
+use borrow.Author.Needs.{needs}
+use native.Mathlib.Omega.{arith}
+use Rattle.replay.proofs.shift.Statement.{statement}
+use Rattle.replay.proofs.shift.Tie as tie
+
+abbrev Inv-loop : tie.InvT-loop
+Inv-loop buffer₀ from end i₀ buffer i = Shifting buffer₀ from i buffer × (i ≤ end - from)
+
+abbrev μ-loop : tie.MeasureT-loop
+μ-loop buffer₀ from end i₀ buffer i = end - from - i
+
+loop-holds : tie.Need-loop-holds Inv-loop μ-loop
+loop-holds c = (shift-starts, search needs)
+
+sub-loop : tie.Need-sub-loop Inv-loop μ-loop
+sub-loop c = search needs
+
+add-buffer : tie.Need-add-buffer Inv-loop μ-loop
+add-buffer c = search needs
+
+slice-read-buffer : tie.Need-slice-read-buffer Inv-loop μ-loop
+slice-read-buffer c = search needs
+
+slice-write-buffer : tie.Need-slice-write-buffer Inv-loop μ-loop
+slice-write-buffer c = search needs
+
+add-i : tie.Need-add-i Inv-loop μ-loop
+add-i c = search needs
+
+loop-less : tie.Need-loop-less Inv-loop μ-loop
+loop-less c = search needs
+
+loop-again : tie.Need-loop-again Inv-loop μ-loop
+loop-again c = (shift-goes-on (c .before .before .loop .inv .0) (omega arith), search needs)
+
+same-length : tie.Need-same-length Inv-loop μ-loop
+same-length c = search needs
+
+returns : tie.Need-returns Inv-loop μ-loop
+returns c = let e : c .before .loop .i ≡ c .before .before .args .end - c .before .before .args .from = omega arith in rw (← e) (c .before .loop .inv .0 .front)
+
+pub shift-spec : {M : Type 1} → statement M
+shift-spec =
+    tie.close
+    (tie.spec
+    Inv-loop
+    μ-loop
+    loop-holds
+    sub-loop
+    add-buffer
+    slice-read-buffer
+    slice-write-buffer
+    add-i
+    loop-less
+    loop-again
+    same-length
+    returns)
