@@ -18,7 +18,6 @@ use rules::Ring;
 ghost use mathlib.Core.Path.{_≡_};
 ghost use mathlib.Core.Bool.{Bool, true, false};
 ghost use Prim.Native.Nat.{_<_, _^_};
-ghost use Rattle.rules.specs.Answers.{number};
 ghost use Rattle.rules.specs.Ring.{zeroRing};
 ghost use Rattle.rules.specs.Registers.{isWide, valueOf, readValue, latchOf, latchEffect, taken as Registers·taken, unlessRefused, store as Registers·store, writeTo, write as Registers·write, freshRegisters, withLinks, withTest, withTest64, withEnable, withRing, linkEffect, resetRegisters};
 ghost use Rattle.rules.specs.Switch.{freshRefusal, linkRefusal};
@@ -43,29 +42,6 @@ pub struct Written {
 pub struct Changed {
     pub answer: Answer,
     pub registers: Registers,
-}
-
-// The number of an answer.
-pub fn answer_number(a: Answer) -> u64
-    ensures { λ r. ⌜ r ≡ number a ⌝ }
-{
-    match a {
-        Answer::Done => 0,
-        Answer::AccessNotAllowed => 1,
-        Answer::ValueNotAllowed => 2,
-        Answer::RingEmpty => 3,
-        Answer::CreditsFull => 4,
-        Answer::DescriptorOutside => 5,
-        Answer::BufferShort => 6,
-        Answer::PortNotAllowed => 7,
-        Answer::NotAFrame => 8,
-        Answer::ListShort => 9,
-        Answer::CutShort => 10,
-        Answer::BadMark => 11,
-        Answer::BadVersion => 12,
-        Answer::BadPortCount => 13,
-        Answer::RecordDisagrees => 14,
-    }
 }
 
 // ---- Fresh and reset

@@ -30,7 +30,7 @@ fn not_a_number(line: u64) {
 }
 
 fn print_answer(a: Answer) {
-    io::print_decimal(STDOUT_FILENO, registers::answer_number(a));
+    io::print_decimal(STDOUT_FILENO, answers::number(a));
 }
 
 fn end_output() {
@@ -59,7 +59,7 @@ fn run_fresh(d: Registers, s: &[u8], line: u64) -> Registers {
     let answer = r.answer;
     print_answer(answer);
     end_output();
-    if registers::answer_number(answer) != 0 {
+    if answers::number(answer) != 0 {
         return d;
     }
     let after = r.registers;

@@ -53,7 +53,7 @@ fn run_fresh(p: Console, s: &[u8], line: u64) -> Console {
     let answer = r.answer;
     print::answer(answer);
     print::end();
-    if print::answer_number(answer) != 0 {
+    if answers::number(answer) != 0 {
         return p;
     }
     let d = r.device;

@@ -12,12 +12,8 @@ pub fn complain(line: u64, why: &[u8]) {
     io::write_all(STDERR_FILENO, b"\n");
 }
 
-pub fn answer_number(a: Answer) -> u64 {
-    registers::answer_number(a)
-}
-
 pub fn answer(a: Answer) {
-    io::print_decimal(STDOUT_FILENO, registers::answer_number(a));
+    io::print_decimal(STDOUT_FILENO, answers::number(a));
 }
 
 // A space, and a number.

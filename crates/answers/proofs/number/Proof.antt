@@ -1,7 +1,7 @@
 use Rattle.rules.specs.Answers.{number}
 use borrow.Author.Needs.{needs}
-use Rattle.registers.proofs.answer_number.Statement.{statement}
-use Rattle.registers.proofs.answer_number.Tie as tie
+use Rattle.answers.proofs.number.Statement.{statement}
+use Rattle.answers.proofs.number.Tie as tie
 
 enum-told : tie.Need-enum-told
 enum-told c = search needs
@@ -108,8 +108,8 @@ returns-15 : tie.Need-returns-15
 unfolding number
 returns-15 c = search needs
 
-pub answer-number-spec : {M : Type 1} → statement M
-answer-number-spec =
+pub number-spec : {M : Type 1} → statement M
+number-spec =
     tie.close
     (tie.spec
     enum-told
