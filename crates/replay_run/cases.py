@@ -1,6 +1,7 @@
 #!/usr/bin/env python3
 """cases.py MODEL: writes the journals that replay_run reads (stdin) and, by another implementation of the rules, what it has to
-print (stdout). MODEL is the command of that implementation: `MODEL replay FILE` prints the lines of one journal."""
+print (stdout). MODEL is the command of that implementation: `MODEL replay FILE` prints the lines of one journal, and
+`MODEL generate-journal SEED` writes one."""
 import pathlib
 import struct
 import subprocess
@@ -9,6 +10,11 @@ import tempfile
 
 here = pathlib.Path(__file__).parent
 OK, ENOENT, ENXIO, ENOMEM, EEXIST, EINVAL, EMSGSIZE, ENOTSUP = 0, 2, 6, 12, 17, 22, 90, 95
+ROOM = 65536  # what the program reads at most
+
+# Seeds of short journals: valid ones, cut ones, those with a fault in the header, and those of which a record disagrees.
+SEEDS = (3, 7, 9, 10, 11, 14, 18, 32, 36, 42, 48, 57, 71, 86, 20, 27, 35, 67, 94, 101, 111, 131, 53, 148, 29, 41, 50, 74, 123,
+         6, 39, 44, 46, 69, 76, 91, 122, 125, 137, 188, 222)
 
 
 def tlv(kind, value):
@@ -42,6 +48,13 @@ def record(status, payload=b"", slot=0, bit=0x8000, length=None):
 
 def header(ports=4, mark=b"RKT", version=1):
     return mark + struct.pack("<HB", version, ports)
+
+
+def full():
+    """128 groups, then one more; and with one group less again one more."""
+    ids = [n << 16 | 2 for n in range(1, 130)]
+    return (header() + b"".join(record(OK, group(7, id), k) for k, id in enumerate(ids[:128])) + record(ENOMEM, group(7, ids[128]), 128) +
+            record(EEXIST, group(7, ids[0]), 129) + record(OK, group_del(ids[5]), 130) + record(OK, group(7, ids[128]), 131))
 
 
 def cases():
@@ -101,6 +114,13 @@ def cases():
     # the first fault decides
     yield header() + record(OK, group_del()) + b"\0"
     yield header(0) + record(OK, group_del())
+    yield full()
+    for seed in SEEDS:
+        yield model("generate-journal", str(seed))
+
+
+def model(*words):
+    return subprocess.run([sys.argv[1], *words], stdout=subprocess.PIPE, check=True).stdout
 
 
 frames, lines = b"", b""
@@ -108,9 +128,11 @@ for number, journal in enumerate(cases(), 1):
     with tempfile.NamedTemporaryFile() as f:
         f.write(journal)
         f.flush()
-        said = subprocess.run([sys.argv[1], "replay", f.name], stdout=subprocess.PIPE, check=True).stdout
+        said = model("replay", f.name)
     frames += struct.pack("<I", len(journal)) + journal
     lines += b"journal %d\n" % number + said
+if len(frames) > ROOM:
+    sys.exit(f"{len(frames)} bytes are more than {ROOM}")
 (here / "stdin").write_bytes(frames)
 (here / "stdout").write_bytes(lines)
 print(number, "journals,", len(frames), "bytes")

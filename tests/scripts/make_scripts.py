@@ -1,8 +1,9 @@
 #!/usr/bin/env python3
 """Writes console scripts (docs/CONSOLE.md) for the programs that run them: make_scripts.py NAME > crates/NAME/stdin.
 
-NAME is payloads_run, frames_run or incident_run; or edges, the first part of the script of `console`. The outcomes, crates/NAME/stdout, come from the second implementation of the
-device and never from these programs.
+NAME is payloads_run, frames_run or incident_run; or edges or credits, the first and the last part of the script of `console`. The
+outcomes, crates/NAME/stdout, come from the second implementation of the device and never from these programs: tests/scripts/store
+writes all of them.
 """
 import struct
 import sys
@@ -79,7 +80,7 @@ def listed(fields):
 
 
 class Script:
-    """A script whose ring is at `base` and whose payloads stand at 0x8000."""
+    """A script whose ring is at `base` and whose payloads stand at 0x8000, or where the caller says."""
 
     def __init__(self, memory=65536, base=0, size=8, ports=PORTS, switch_id=0x0123456789ABCDEF):
         self.lines = []
@@ -100,10 +101,10 @@ class Script:
         data = le64(at) + le64(0x5EED0000 + slot) + le16(buf) + le16(tlvs) + bytes(12)
         self.add(f"poke {self.base + 32 * slot:#x} {data.hex()}")
 
-    def post(self, data, at=0x8000, buf=None, tlvs=None):
+    def post(self, data, at=None, buf=None, tlvs=None, place=0x8000):
         if data:
-            self.add(f"poke 0x8000 {data.hex()}")
-        self.describe(self.head, at, len(data) if buf is None else buf, len(data) if tlvs is None else tlvs)
+            self.add(f"poke {place:#x} {data.hex()}")
+        self.describe(self.head, place if at is None else at, len(data) if buf is None else buf, len(data) if tlvs is None else tlvs)
         self.head = (self.head + 1) % self.size
         self.add(f"write 4 0x100c {self.head}")
 
@@ -460,7 +461,8 @@ def wrapped(s, base, size, rounds):
     s.ring(base, size)
     for n in range(rounds):
         for k in range(size - 1):
-            s.post(payload(3, listed(ingress(0x2000 + 16 * n + k))) if k % 2 else payload(5, listed({5: le64(7)})))
+            flow = payload(3, listed(ingress(0x2000 + 16 * n + k))) if (n + k) % 2 else payload(5, listed({5: le64(0x2000 + 16 * n + k)}))
+            s.post(flow, place=0x8000 + 256 * k)
         s.note("One more does not fit.")
         s.add(f"write 4 0x100c {(s.head + 1) % size}", "read 4 0x100c")
         for _ in range(size):
@@ -522,6 +524,29 @@ def edges():
     return s
 
 
+# ---- The last part: as many credits as there may be
+
+def credits():
+    s = Script.__new__(Script)
+    s.lines = []
+    s.note("All of the largest memory is a ring of empty descriptors. 65,536 are consumed, in three rounds, and no credit is returned.")
+    s.add("memory 1048576", "fresh 1 1")
+    s.ring(0, 32768)
+    for head, slots in [(32767, 32767), (32766, 32767), (0, 2)]:
+        s.add(f"write 4 0x100c {head}", *["work 6"] * slots)
+    s.add("read 4 0x1018", "read 4 0x1010")
+    s.note("Nothing is posted: 3. Then 4, also with no room, and with the descriptor outside memory.")
+    s.add("work 6", "write 4 0x100c 2", "work 6", "work 0", "memory 31", "work 6", "work 0", "read 4 0x1018")
+    s.note("One credit more than there are cannot be returned; none can, and one: then 5, 6, one slot more and 4 again.")
+    s.add("write 4 0x1018 65537", "write 4 0x1018 0", "work 6", "write 4 0x1018 1", "work 6", "memory 64", "work 5", "work 6", "work 6",
+          "read 4 0x1018")
+    s.note("SIZE and BASE_ADDR keep the credits; all of them returned, and a ring reset.")
+    s.add("write 4 0x1008 2", "write 8 0x1000 32", "work 6", "write 4 0x100c 1", "work 6", "write 4 0x1018 65536", "work 6", "read 4 0x1018",
+          "write 4 0x1014 1", "read 4 0x1018", "write 4 0x1018 1")
+    return s
+
+
 if __name__ == "__main__":
-    script = {"payloads_run": payloads_run, "frames_run": frames_run, "incident_run": incident_run, "edges": edges}[sys.argv[1]]()
+    script = {"payloads_run": payloads_run, "frames_run": frames_run, "incident_run": incident_run, "edges": edges,
+              "credits": credits}[sys.argv[1]]()
     print("\n".join(script.lines))
