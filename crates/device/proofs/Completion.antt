@@ -9,16 +9,22 @@ use lib.ListN.{length}
 use lib.Dec.{ltb}
 use borrow.Author.Tests.{le-leb, lt-ltb}
 use Rattle.rules.specs.Choose.{choose}
-use Rattle.rules.specs.Bytes.{inside, bytesOf, splice}
+use Rattle.rules.specs.Bytes.{inside, bytesOf, part, splice}
 use Rattle.rules.specs.Ring.{completeEffect, completeInterrupt}
 use Rattle.rules.specs.Registers.{withRing}
-use Rattle.rules.specs.Journal.{completion}
+use Rattle.rules.specs.Journal.{completion, recordOf}
 use Rattle.rules.specs.declared.Answer.the-variants.{Done}
 use Rattle.rules.specs.declared.Device.{Device}
 use Rattle.rules.specs.declared.Ring.{Ring}
 use Rattle.wire.specs.Put.{put}
-use Rattle.execute.specs.declared.Executed.{Executed}
-use Rattle.device.specs.Fetching.{Carries, Recorded}
+use Rattle.rules.specs.Tables.{tablesOf, carryOut}
+use Rattle.rules.specs.Switch.{Carried}
+use Rattle.rules.specs.declared.Status.{Status}
+use Rattle.rules.specs.declared.FlowTable.{FlowTable}
+use Rattle.rules.specs.declared.GroupTable.{GroupTable}
+use Rattle.rules.specs.declared.Decoding.{Decoding}
+use Rattle.execute.specs.Outcome.{Executes}
+use Rattle.device.specs.Fetching.{Asks, carriedBy}
 use Rattle.device.specs.Completion.{Completes}
 use Rattle.device.specs.declared.Called.{Called}
 use Rattle.device.specs.declared.slot.Slot.{Slot}
@@ -29,8 +35,8 @@ unfolding put inside
 put-inside at n v s h = rw (le-leb _ _ h)
 
 -- the result of completing a slot
-unfoldable pub result : Device → Executed → Slot → ℕ → Bool → Ring → Called
-result d x s completed raised next =
+unfoldable pub result : Device → FlowTable → GroupTable → Slot → ℕ → Bool → Ring → Called
+result d flows groups s completed raised next =
     record {
       answer = Done;
       value = 0;
@@ -50,19 +56,31 @@ result d x s completed raised next =
           «test_reg» = d .registers .«test_reg»;
           ring = next;
         };
-        flows = x .flows;
-        groups = x .groups;
+        flows = flows;
+        groups = groups;
       };
     }
 
-pub completes : (d : Device) (x : Executed) (s : Slot) (at completed : ℕ) (raised : Bool) (next : Ring) (memory memory′ buffer buffer′ : List ℕ)
-    → at + 32 ≤ length memory → Recorded x s (d .registers) (d .flows) (d .groups) memory buffer buffer′ → completed ≡ completion (x .status)
+-- a slot's request carried out on the tables
+pub record Carries (status : Status) (flows : FlowTable) (groups : GroupTable) (of : Carried) : Type 0 where
+  pub status-is : status ≡ of .status
+  pub tables-are : tablesOf flows groups ≡ of .tables
+
+pub carries : (q : Decoding) (s : Slot) (d : Device) (memory : List ℕ) (status : Status) (flows : FlowTable) (groups : GroupTable)
+    → Asks q s (d .registers .ports) memory → Executes status flows groups (carryOut (tablesOf (d .flows) (d .groups)) q)
+    → Carries status flows groups (carriedBy s (d .registers) (d .flows) (d .groups) memory)
+unfolding carriedBy
+carries q s d memory status flows groups a x = record { status-is = x .status-is ∙ a .status-is _; tables-are = x .tables-are ∙ a .tables-are _ }
+
+pub completes : (d : Device) (status : Status) (flows : FlowTable) (groups : GroupTable) (s : Slot) (at completed : ℕ) (raised : Bool) (next : Ring) (memory memory′ buffer buffer′ : List ℕ)
+    → at + 32 ≤ length memory → Carries status flows groups (carriedBy s (d .registers) (d .flows) (d .groups) memory)
+    → buffer′ ≡ splice 0 (recordOf status (part (s .size) memory (s .start)) (d .registers .ring .tail)) buffer → completed ≡ completion status
     → memory′ ≡ put (at + 30) 2 completed memory → raised ≡ completeInterrupt (d .registers .ring) → d .registers .ring .credits < 65536
     → next ≡ choose (ltb (d .registers .ring .credits) 65536) (completeEffect (d .registers .ring)) (d .registers .ring)
-    → Completes (result d x s completed raised next) d s at memory memory′ buffer buffer′
+    → Completes (result d flows groups s completed raised next) d s at memory memory′ buffer buffer′
 unfolding result withRing
-completes d x s at completed raised next memory memory′ buffer buffer′ h r c m i room n =
-    let k : completed ≡ completion _ = c ∙ ap completion (r .carries .status-is) in
+completes d status flows groups s at completed raised next memory memory′ buffer buffer′ h r b c m i room n =
+    let k : completed ≡ completion _ = c ∙ ap completion (r .status-is) in
     record {
       answer-is = refl;
       value-is = refl;
@@ -71,7 +89,7 @@ completes d x s at completed raised next memory memory′ buffer buffer′ h r c
       length-is = refl;
       outputs-are = refl;
       registers-are = let q : next ≡ completeEffect (d .registers .ring) = n ∙ rw (lt-ltb _ _ room) in rw q;
-      tables-are = r .carries .tables-are;
+      tables-are = r .tables-are;
       memory-is = m ∙ (put-inside (at + 30) 2 completed memory (omega arith) ∙ rw k);
-      buffer-is = r .buffer-is ∙ rw (r .carries .status-is);
+      buffer-is = b ∙ rw (r .status-is);
     }

@@ -7,6 +7,7 @@ use rules::Answer;
 use rules::Device;
 use rules::Registers;
 use rules::Request;
+use rules::Status;
 use slot::Slot;
 ghost use mathlib.Core.Path.{_≡_};
 ghost use mathlib.Core.List.{List};
@@ -157,17 +158,27 @@ fn complete(d: Device, memory: &mut [u8], buffer: &mut [u8], at: usize, s: Slot)
 {
     let regs = d.registers;
     let ring = regs.ring;
-    let flows = d.flows;
-    let groups = d.groups;
-    let x = slot::carry_and_record(memory, buffer, s, regs, flows, groups);
-    let status = x.status;
+    let q = slot::request_of(memory, s, regs.ports);
+    let what = q.what;
+    let members = q.members;
+    let mut flows = d.flows;
+    let mut groups = d.groups;
+    let mut status = Status::Ok;
+    if execute::changes_flows(what) {
+        let r = execute::on_flows(what, flows);
+        status = r.status;
+        flows = r.table;
+    } else {
+        let r = execute::on_groups(what, members, groups);
+        status = r.status;
+        groups = r.table;
+    }
+    slot::record(memory, buffer, s, status, ring.tail);
     let completed = journal::writer::completion(status);
     wire::put16(memory, at + 30, completed);
     let mut after = regs;
     let next = registers::complete(ring);
     after.ring = next;
-    let flows = x.flows;
-    let groups = x.groups;
     Called {
         answer: Answer::Done,
         value: 0,

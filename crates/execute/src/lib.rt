@@ -1,4 +1,5 @@
-// A payload carried out on the tables: its status, and the tables after it.
+// A decoded payload carried out: its status, and the table that it changes. Whoever holds the tables hands over that one alone, since
+// a table that is handed over is copied.
 use rules::Command;
 use rules::Decoded;
 use rules::Flow;
@@ -12,15 +13,10 @@ use rules::Status;
 use tables::FlowChange;
 use tables::GroupChange;
 ghost use mathlib.Core.Path.{_≡_};
-ghost use Rattle.rules.specs.Tables.{tablesOf, flowEntry, groupEntry, commandStatus, commandEffect, executed, execute as Tables·execute};
-ghost use Rattle.execute.specs.Outcome.{Executes};
+ghost use Rattle.rules.specs.Tables.{liveFlows, liveGroups, flowEntry, groupEntry};
+ghost use Rattle.tables.specs.Commands.{Changed};
+ghost use Rattle.execute.specs.Parts.{ofFlows, changesFlows, flowStatus, flowEffect, statusOnFlows, effectOnFlows, groupStatus, groupEffect, statusOnGroups, effectOnGroups};
 ghost use Rattle.execute.specs.Entries.{commonEntry};
-
-pub struct Executed {
-    pub status: Status,
-    pub flows: FlowTable,
-    pub groups: GroupTable,
-}
 
 // A stored flow with the fields that every table has, the others 0.
 fn common_entry(f: Flow) -> FlowEntry
@@ -99,64 +95,89 @@ fn group_entry(g: Group, members: [u16; 62]) -> GroupEntry
     }
 }
 
-// One table changed, the other as it was.
-fn with_flows(c: FlowChange, groups: GroupTable) -> Executed
-    ensures { λ r. ⌜ (r .status ≡ c .status) × (r .flows ≡ c .table) × (r .groups ≡ groups) ⌝ }
-{
-    let flows = c.table;
-    let status = c.status;
-    Executed {
-        status: status,
-        flows: flows,
-        groups: groups,
-    }
-}
-
-fn with_groups(flows: FlowTable, c: GroupChange) -> Executed
-    ensures { λ r. ⌜ (r .status ≡ c .status) × (r .flows ≡ flows) × (r .groups ≡ c .table) ⌝ }
-{
-    let groups = c.table;
-    let status = c.status;
-    Executed {
-        status: status,
-        flows: flows,
-        groups: groups,
-    }
-}
-
-// A command carried out: only its own table changes, and only where the status is OK.
-pub fn carry_out(c: Command, members: [u16; 62], flows: FlowTable, groups: GroupTable) -> Executed
-    ensures { λ r. ⌜ Executes r flows groups (executed (tablesOf flows groups) (commandStatus (tablesOf flows groups) c) (commandEffect (tablesOf flows groups) c members)) ⌝ }
+fn of_flows(c: Command) -> bool
+    ensures { λ r. ⌜ r ≡ ofFlows c ⌝ }
 {
     match c {
-        Command::FlowAdd(f) => with_flows(tables::flow_add(flows, flow_entry(f)), groups),
-        Command::FlowMod(f) => with_flows(tables::flow_mod(flows, flow_entry(f)), groups),
-        Command::FlowDel(cookie) => with_flows(tables::flow_del(flows, cookie), groups),
-        Command::GroupAdd(g) => with_groups(
-            flows,
-            tables::group_add(groups, group_entry(g, members)),
-        ),
-        Command::GroupMod(g) => with_groups(
-            flows,
-            tables::group_mod(groups, group_entry(g, members)),
-        ),
-        Command::GroupDel(id) => with_groups(flows, tables::group_del(groups, id)),
+        Command::FlowAdd(_) => true,
+        Command::FlowMod(_) => true,
+        Command::FlowDel(_) => true,
+        Command::GroupAdd(_) => false,
+        Command::GroupMod(_) => false,
+        Command::GroupDel(_) => false,
     }
 }
 
-// A payload carried out: decoded, and then its command; or the status of its first fault, with the tables as they were.
-pub fn execute(payload: &[u8], ports: u32, flows: FlowTable, groups: GroupTable) -> Executed
-    ensures { λ r. ⌜ Executes r flows groups (Tables·execute ports (now (payload .entry)) (tablesOf flows groups)) ⌝ }
+// Whether the flow table is the one that may change.
+pub fn changes_flows(what: Decoded) -> bool
+    ensures { λ r. ⌜ r ≡ changesFlows what ⌝ }
 {
-    let d = command::decode(payload, ports);
-    let members = d.members;
-    let what = d.what;
     match what {
-        Decoded::Carry(c) => carry_out(c, members, flows, groups),
-        Decoded::Refused(status) => Executed {
-            status: status,
-            flows: flows,
-            groups: groups,
-        },
+        Decoded::Carry(c) => of_flows(c),
+        Decoded::Refused(_) => false,
+    }
+}
+
+fn same_flows(status: Status, flows: FlowTable) -> FlowChange
+    ensures { λ r. ⌜ Changed liveFlows flows status (liveFlows flows) (r .status) (r .table) ⌝ }
+{
+    FlowChange {
+        status: status,
+        table: flows,
+    }
+}
+
+fn flow_command(c: Command, flows: FlowTable) -> FlowChange
+    ensures { λ r. ⌜ Changed liveFlows flows (flowStatus c (liveFlows flows)) (flowEffect c (liveFlows flows)) (r .status) (r .table) ⌝ }
+{
+    match c {
+        Command::FlowAdd(f) => tables::flow_add(flows, flow_entry(f)),
+        Command::FlowMod(f) => tables::flow_mod(flows, flow_entry(f)),
+        Command::FlowDel(cookie) => tables::flow_del(flows, cookie),
+        Command::GroupAdd(_) => same_flows(Status::Ok, flows),
+        Command::GroupMod(_) => same_flows(Status::Ok, flows),
+        Command::GroupDel(_) => same_flows(Status::Ok, flows),
+    }
+}
+
+// The status, and the flow table after it.
+pub fn on_flows(what: Decoded, flows: FlowTable) -> FlowChange
+    ensures { λ r. ⌜ Changed liveFlows flows (statusOnFlows what (liveFlows flows)) (effectOnFlows what (liveFlows flows)) (r .status) (r .table) ⌝ }
+{
+    match what {
+        Decoded::Carry(c) => flow_command(c, flows),
+        Decoded::Refused(status) => same_flows(status, flows),
+    }
+}
+
+fn same_groups(status: Status, groups: GroupTable) -> GroupChange
+    ensures { λ r. ⌜ Changed liveGroups groups status (liveGroups groups) (r .status) (r .table) ⌝ }
+{
+    GroupChange {
+        status: status,
+        table: groups,
+    }
+}
+
+fn group_command(c: Command, members: [u16; 62], groups: GroupTable) -> GroupChange
+    ensures { λ r. ⌜ Changed liveGroups groups (groupStatus c (liveGroups groups)) (groupEffect c members (liveGroups groups)) (r .status) (r .table) ⌝ }
+{
+    match c {
+        Command::FlowAdd(_) => same_groups(Status::Ok, groups),
+        Command::FlowMod(_) => same_groups(Status::Ok, groups),
+        Command::FlowDel(_) => same_groups(Status::Ok, groups),
+        Command::GroupAdd(g) => tables::group_add(groups, group_entry(g, members)),
+        Command::GroupMod(g) => tables::group_mod(groups, group_entry(g, members)),
+        Command::GroupDel(id) => tables::group_del(groups, id),
+    }
+}
+
+// The status, and the group table after it.
+pub fn on_groups(what: Decoded, members: [u16; 62], groups: GroupTable) -> GroupChange
+    ensures { λ r. ⌜ Changed liveGroups groups (statusOnGroups what (liveGroups groups)) (effectOnGroups what members (liveGroups groups)) (r .status) (r .table) ⌝ }
+{
+    match what {
+        Decoded::Carry(c) => group_command(c, members, groups),
+        Decoded::Refused(status) => same_groups(status, groups),
     }
 }
