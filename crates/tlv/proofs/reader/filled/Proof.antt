@@ -1,13 +1,16 @@
 use Rattle.rules.specs.Region.{filled}
 use mathlib.Core.Path.{refl}
+use native.Mathlib.Omega.{arith}
 use borrow.Author.Needs.{needs}
-use Rattle.tlv.proofs.filled.Statement.{statement}
-use Rattle.tlv.proofs.filled.Tie as tie
+use Rattle.tlv.proofs.reader.filled.Statement.{statement}
+use Rattle.tlv.proofs.reader.filled.Tie as tie
 
 add-result : tie.Need-add-result
+unfolding filled
 add-result c = search needs
 
 mul-result : tie.Need-mul-result
+unfolding filled
 mul-result c = search needs
 
 returns : tie.Need-returns
