@@ -56,6 +56,7 @@ fn after(at: usize, step: Step) -> usize
     }
 }
 
+// A borrowed region and a position in it.
 pub struct Reader<'a> {
     payload: &'a [u8],
     at: usize,
@@ -80,7 +81,7 @@ fn next<'a>(r: Reader<'a>) -> Step
     step(r.payload, r.at)
 }
 
-// The reader past what stands at its position.
+// The reader past the step that was read at its position.
 fn skip<'a>(r: Reader<'a>, step: Step) -> Reader<'a>
     requires { ⌜ Region·after (r .at) step < 2 ^ 64 ⌝ }
     ensures { λ q. ⌜ (q .payload ≡ r .entry .payload) × (q .at ≡ Region·after (r .entry .at) step) ⌝ }
