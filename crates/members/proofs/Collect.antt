@@ -12,13 +12,13 @@ use lib.Dec.{eqb, leb}
 use borrow.Author.Tests.{eq-eqb, ne-eqb, ltb-true}
 use Rattle.rules.specs.Choose.{choose}
 use Rattle.rules.specs.Bytes.{leAt}
-use Rattle.rules.specs.Region.{stepAt, tlvs, wellFormed}
+use Rattle.rules.specs.Region.{tlvEnd, stepAt, after, tlvs, wellFormed}
 use Rattle.rules.specs.Fields.{ruleOf}
 use Rattle.rules.specs.GroupId.{groupType, groupVlan, groupLow}
-use Rattle.rules.specs.Members.{elem, memberRight, membersRight, collect, membersIn, pad}
+use Rattle.rules.specs.Members.{Collected, elem, memberRight, membersRight, collect, membersIn, pad}
 use Rattle.rules.specs.declared.Tlv.{Tlv}
-use Rattle.rules.specs.declared.Step.the-variants.{End, Next}
-use Rattle.rules.proofs.Region.{tlvs-next, tlvs-end, step-inside}
+use Rattle.rules.specs.declared.Step.the-variants.{Next, End, Fault}
+use Rattle.rules.proofs.Region.{Reached, reached-next, reached-end, reached-fault, tlvs-next, tlvs-end, step-inside, after-next}
 use Rattle.rules.proofs.Cases.{by-test, by-le, and-left}
 use Rattle.members.specs.Listed.{listed}
 
@@ -43,12 +43,15 @@ lowAt s x = groupLow (leAt 4 s (x .start))
 abbrev pub rightAfter : List ℕ → ℕ → List ℕ → ℕ → Tlv → Bool
 rightAfter s vlan before n x = memberRight vlan n x (leAt 4 s (x .start)) (elem (lowAt s x) before)
 
+-- no members, where one is not right or the region is not well formed
+abbrev nobody : Collected
+nobody = record { right = false; lows = [] }
+
 collect-cons : (s : List ℕ) (vlan : ℕ) (before : List ℕ) (x : Tlv) (xs : List Tlv) (b : Bool)
     → rightAfter s vlan before (length before) x ≡ b
-    → collect s vlan before (x ∷ xs) ≡ choose b (collect s vlan (before ++ (lowAt s x ∷ [])) xs) (record { right = false; lows = [] })
+    → collect s vlan before (x ∷ xs) ≡ choose b (collect s vlan (before ++ (lowAt s x ∷ [])) xs) nobody
 unfolding collect
-collect-cons s vlan before x xs b e =
-    ap (λ (t : Bool). choose t (collect s vlan (before ++ (lowAt s x ∷ [])) xs) (record { right = false; lows = [] })) e
+collect-cons s vlan before x xs b e = ap (λ (t : Bool). choose t (collect s vlan (before ++ (lowAt s x ∷ [])) xs) nobody) e
 
 -- a member has a place among the 62
 pub member-room : (vlan n : ℕ) (x : Tlv) (id : ℕ) (there : Bool) → memberRight vlan n x id there ≡ true → n < 62
@@ -94,14 +97,15 @@ none-listed count b = rw (none-right count b)
 -- Where the reading of a region stands: n members are at the front of the places, and the rest of the region decides
 pub record Reading (s : List ℕ) (vlan : ℕ) (lows : List ℕ) (n at : ℕ) : Type 0 where
   pub inside : at ≤ length s
+  pub reached : Reached s at
   pub few : n ≤ 62
   pub places : length lows ≡ 62
   pub padded : lows ≡ pad (take n lows)
-  pub rest : membersIn s vlan ≡ collect s vlan (take n lows) (tlvs s at)
+  pub rest : membersIn s vlan ≡ choose (wellFormed s) (collect s vlan (take n lows) (tlvs s at)) nobody
 
-pub reading-starts : (s : List ℕ) (vlan : ℕ) → wellFormed s ≡ true → Reading s vlan (replicate 62 0) 0 0
+pub reading-starts : (s : List ℕ) (vlan : ℕ) → Reading s vlan (replicate 62 0) 0 0
 unfolding pad membersIn
-reading-starts s vlan w = record { inside = omega arith; few = omega arith; places = refl; padded = refl; rest = rw w }
+reading-starts s vlan = record { inside = omega arith; reached = refl; few = omega arith; places = refl; padded = refl; rest = refl }
 
 module _ (s : List ℕ) (vlan : ℕ) (lows : List ℕ) (n at : ℕ) (r : Reading s vlan lows n at) where
   read-so-far : length (take n lows) ≡ n
@@ -110,25 +114,32 @@ module _ (s : List ℕ) (vlan : ℕ) (lows : List ℕ) (n at : ℕ) (r : Reading
   pub has-room : (x : Tlv) → rightAfter s vlan (take n lows) n x ≡ true → n < 62
   has-room x b = member-room vlan n x (leAt 4 s (x .start)) (elem (lowAt s x) (take n lows)) b
 
-  pub reading-next : (x : Tlv) → stepAt s at ≡ Next x → rightAfter s vlan (take n lows) n x ≡ true
-      → Reading s vlan (set lows n (lowAt s x)) (n + 1) (x .next)
-  reading-next x e b =
+  -- what a TLV makes of the members before it
+  takes : (x : Tlv) (b : Bool) → stepAt s at ≡ Next x → rightAfter s vlan (take n lows) n x ≡ b
+      → membersIn s vlan ≡ choose (wellFormed s) (choose b (collect s vlan (take n lows ++ (lowAt s x ∷ [])) (tlvs s (tlvEnd x))) nobody) nobody
+  takes x b e h = r .rest ∙ rw (tlvs-next s at x e, collect-cons s vlan (take n lows) x (tlvs s (tlvEnd x)) b (rw read-so-far h))
+
+  pub reading-next : (x : Tlv) (m : ℕ) → stepAt s at ≡ Next x → m ≡ after at (stepAt s at) → rightAfter s vlan (take n lows) n x ≡ true
+      → Reading s vlan (set lows n (lowAt s x)) (n + 1) m
+  reading-next x m e g b =
       let room = has-room x b in
-      record {
+      rw (g ∙ after-next s at x e)
+      (record {
         inside = step-inside s at x e .fits;
+        reached = reached-next s at x e (r .reached);
         few = omega arith;
         places = rw length-set (r .places);
         padded = store-padded lows n (lowAt s x) room (r .places) (r .padded);
-        rest =
-            rw (store-members lows n (lowAt s x) room (r .places))
-            (r .rest ∙ rw (tlvs-next s at x e) (collect-cons s vlan (take n lows) x (tlvs s (x .next)) true (rw read-so-far b)));
-      }
+        rest = rw (store-members lows n (lowAt s x) room (r .places)) (takes x true e b);
+      })
 
-  pub reading-fails : (x : Tlv) → stepAt s at ≡ Next x → rightAfter s vlan (take n lows) n x ≡ false
-      → membersIn s vlan ≡ record { right = false; lows = [] }
-  reading-fails x e b = r .rest ∙ rw (tlvs-next s at x e) (collect-cons s vlan (take n lows) x (tlvs s (x .next)) false (rw read-so-far b))
+  pub reading-fails : (x : Tlv) → stepAt s at ≡ Next x → rightAfter s vlan (take n lows) n x ≡ false → membersIn s vlan ≡ nobody
+  reading-fails x e b = takes x false e b ∙ by-test (wellFormed s) (λ p. simp p) (λ p. simp p)
 
   pub reading-ends : (count : ℕ) → stepAt s at ≡ End
       → record { right = leb 1 count && leb count 62 && eqb n count; lows = lows } ≡ listed count (membersIn s vlan)
   unfolding listed membersRight collect
-  reading-ends count e = rw (r .rest, tlvs-end s at e, read-so-far, ← r .padded)
+  reading-ends count e = rw (r .rest, reached-end s at e (r .reached), tlvs-end s at e, read-so-far, ← r .padded)
+
+  pub reading-stops : stepAt s at ≡ Fault → membersIn s vlan ≡ nobody
+  reading-stops e = r .rest ∙ rw (reached-fault s at e (r .reached))

@@ -7,6 +7,7 @@ ghost use Rattle.rules.specs.Members.{elem, memberRight, membersIn};
 ghost use Rattle.members.specs.Listed.{listed};
 use rules::Step;
 use rules::Tlv;
+use tlv::reader;
 
 // Whether a member list is right for its count, and the members' low bits, those past the last 0.
 pub struct Members {
@@ -57,24 +58,30 @@ fn member_right(vlan: u16, n: usize, x: Tlv, id: u32, there: bool) -> bool
 pub fn read(s: &[u8], vlan: u16, count: u64) -> Members
     ensures { λ r. ⌜ r ≡ listed count (membersIn (now (s .entry)) vlan) ⌝ }
 {
-    if !tlv::well_formed(s) {
-        return none();
-    }
     let mut lows = [0u16; 62];
     let mut n = 0;
     let mut at = 0;
-    while let Step::Next(x) = tlv::step(s, at) {
-        let id = wire::le32(s, x.start);
-        let low = group_id::low_of(id);
-        if !member_right(vlan, n, x, id, contains(&lows[..n], low)) {
-            return none();
+    loop {
+        let reading = reader::read(s, at);
+        let step = reading.step;
+        match step {
+            Step::Next(x) => {
+                let id = wire::le32(s, x.start);
+                let low = group_id::low_of(id);
+                if !member_right(vlan, n, x, id, contains(&lows[..n], low)) {
+                    return none();
+                }
+                lows[n] = low;
+                n += 1;
+                at = reading.at;
+            }
+            Step::End => {
+                return Members {
+                    right: (1 <= count) & (count <= 62) & (n as u64 == count),
+                    lows: lows,
+                };
+            }
+            Step::Fault => return none(),
         }
-        lows[n] = low;
-        n += 1;
-        at = x.next;
-    }
-    Members {
-        right: (1 <= count) & (count <= 62) & (n as u64 == count),
-        lows: lows,
     }
 }

@@ -8,7 +8,7 @@ use Rattle.rules.specs.Choose.{choose}
 use Rattle.rules.specs.Bytes.{leAt}
 use Rattle.rules.specs.declared.Tlv.{Tlv}
 use Rattle.rules.specs.declared.Step.{Step}
-use Rattle.rules.specs.declared.Step.the-variants.{End, Next}
+use Rattle.rules.specs.declared.Step.the-variants.{Next, End, Fault as NoTlv}
 use Rattle.rules.specs.declared.Found.{Found}
 use Rattle.rules.specs.declared.Found.the-variants.{Absent, At, Fault}
 
@@ -22,17 +22,27 @@ filled n = (n + 7) / 8 * 8
 
 -- "A TLV is type (4), length of its value (2), pad (2, ignored), the value, filled up to a multiple of 8."
 unfoldable pub tlvAt : List ℕ → ℕ → Tlv
-tlvAt s i =
-    record { kind = leAt 4 s i; start = i + 8; size = valueSize (leAt 2 s (i + 4)); next = i + 8 + filled (valueSize (leAt 2 s (i + 4))) }
+tlvAt s i = record { kind = leAt 4 s i; start = i + 8; size = valueSize (leAt 2 s (i + 4)) }
 
--- the TLV at a position, where it stands whole with its fill in the region
+-- where a TLV ends, with its fill
+unfoldable pub tlvEnd : Tlv → ℕ
+tlvEnd x = x .start + filled (x .size)
+
+-- what stands at a position: a TLV that is whole with its fill, the region's end, or a fault
 unfoldable pub stepAt : List ℕ → ℕ → Step
-stepAt s i = choose (leb (tlvAt s i .next) (length s)) (Next (tlvAt s i)) End
+stepAt s i = choose (leb (tlvEnd (tlvAt s i)) (length s)) (Next (tlvAt s i)) (choose (eqb i (length s)) End NoTlv)
 
--- a whole TLV and then those from where the next one starts, or none
+-- where the next step is made, after one at a position
+unfoldable pub after : ℕ → Step → ℕ
+after i (Next x) = tlvEnd x
+after i End = i
+after i NoTlv = i
+
+-- a whole TLV and then those from its end on, or none
 abbrev pub onward : (ℕ → List Tlv) → Step → List Tlv
+onward rest (Next x) = x ∷ rest (tlvEnd x)
 onward rest End = []
-onward rest (Next x) = x ∷ rest (x .next)
+onward rest NoTlv = []
 
 unfoldable pub walk : ℕ → List ℕ → ℕ → List Tlv
 walk zero s i = []
@@ -46,7 +56,7 @@ tlvs s i = walk (length s) s i
 -- where the last of them ends
 unfoldable pub endOf : ℕ → List Tlv → ℕ
 endOf i [] = i
-endOf i (x ∷ xs) = endOf (x .next) xs
+endOf i (x ∷ xs) = endOf (tlvEnd x) xs
 
 -- "A region is well formed when whole TLVs with their fill cover it exactly."
 unfoldable pub wellFormed : List ℕ → Bool

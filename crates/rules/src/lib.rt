@@ -104,18 +104,18 @@ pub struct Descriptor {
 
 // ---- TLV regions and fields
 
-// One whole TLV of a region: its type, where its value starts, how long that is, and where the next TLV starts.
+// One whole TLV of a region: its type, where its value starts, and how long that is.
 pub struct Tlv {
     pub kind: u32,
     pub start: usize,
     pub size: usize,
-    pub next: usize,
 }
 
-// What stands at a position of a region.
+// What stands at a position of a region: a whole TLV; the region's end; or a fault: bytes that are no whole TLV.
 pub enum Step {
-    End,
     Next(Tlv),
+    End,
+    Fault,
 }
 
 // What a region holds of a type: nothing; one value, by start and length; or a fault: it comes twice or has another width.

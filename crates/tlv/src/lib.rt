@@ -1,62 +1,15 @@
-// TLV regions: the TLV at a position, well-formedness, and a type looked up. Every function is equal to a rule of `rules`.
+// TLV regions: well-formedness, a type looked up, and what a value holds. Every function is equal to a rule of `rules`.
 ghost use mathlib.Core.Path.{_≡_};
-ghost use Prim.Native.Nat.{_<_, _^_, min};
+ghost use Prim.Native.Nat.{min};
 ghost use Rattle.rules.specs.Bytes.{part};
-ghost use Rattle.rules.specs.Region.{valueSize, filled as Region·filled, stepAt, wellFormed, meet as Region·meet, lookup};
+ghost use Rattle.rules.specs.Region.{wellFormed, meet as Region·meet, lookup};
 ghost use Rattle.rules.specs.Fields.{isAt, numberIn, nestIn};
 use rules::Found;
 use rules::Step;
 use rules::Tlv;
 
 pub mod fields;
-
-// The length of a value, from its TLV's length field.
-fn value_size(field: u16) -> usize
-    ensures { λ r. ⌜ r ≡ valueSize field ⌝ }
-{
-    field as usize
-}
-
-fn filled(n: usize) -> usize
-    requires { ⌜ n < 2 ^ 32 ⌝ }
-    ensures { λ r. ⌜ r ≡ Region·filled n ⌝ }
-{
-    (n + 7) / 8 * 8
-}
-
-// The TLV at a position, where it stands whole with its fill in the region.
-pub fn step(s: &[u8], at: usize) -> Step
-    ensures { λ r. ⌜ r ≡ stepAt (now (s .entry)) at ⌝ }
-{
-    if s.len() < 8 {
-        return Step::End;
-    }
-    if s.len() - 8 < at {
-        return Step::End;
-    }
-    let size = value_size(wire::le16(s, at + 4));
-    let next = at + 8 + filled(size);
-    if s.len() < next {
-        return Step::End;
-    }
-    Step::Next(Tlv {
-        kind: wire::le32(s, at),
-        start: at + 8,
-        size: size,
-        next: next,
-    })
-}
-
-// Whole TLVs with their fill cover the region exactly.
-pub fn well_formed(s: &[u8]) -> bool
-    ensures { λ r. ⌜ r ≡ wellFormed (now (s .entry)) ⌝ }
-{
-    let mut at = 0;
-    while let Step::Next(x) = step(s, at) {
-        at = x.next;
-    }
-    at == s.len()
-}
+pub mod reader;
 
 // What one more TLV of the type looked for makes of what was found.
 fn meet(width: u8, x: Tlv, f: Found) -> Found
@@ -75,23 +28,57 @@ fn meet(width: u8, x: Tlv, f: Found) -> Found
     }
 }
 
-// What the region holds of a type, at a width; width 0 is a nest, of any length.
-pub fn find(s: &[u8], kind: u32, width: u8) -> Found
-    ensures { λ r. ⌜ r ≡ lookup (now (s .entry)) kind width ⌝ }
+// What a walk over a region gives: what the region holds of a type, at a width, and whether whole TLVs cover it.
+struct Walked {
+    found: Found,
+    whole: bool,
+}
+
+fn walk(s: &[u8], kind: u32, width: u8) -> Walked
+    ensures { λ r. ⌜ (r .found ≡ lookup (now (s .entry)) kind width) × (r .whole ≡ wellFormed (now (s .entry))) ⌝ }
 {
     let mut at = 0;
     let mut found = Found::Absent;
     loop {
-        match step(s, at) {
-            Step::End => return found,
+        let reading = reader::read(s, at);
+        let step = reading.step;
+        match step {
             Step::Next(x) => {
                 if x.kind == kind {
                     found = meet(width, x, found);
                 }
-                at = x.next;
+                at = reading.at;
+            }
+            Step::End => {
+                return Walked {
+                    found: found,
+                    whole: true,
+                };
+            }
+            Step::Fault => {
+                return Walked {
+                    found: found,
+                    whole: false,
+                };
             }
         }
     }
+}
+
+// Whole TLVs with their fill cover the region exactly.
+pub fn well_formed(s: &[u8]) -> bool
+    ensures { λ r. ⌜ r ≡ wellFormed (now (s .entry)) ⌝ }
+{
+    let w = walk(s, 0, 0);
+    w.whole
+}
+
+// What the region holds of a type, at a width; width 0 is a nest, of any length.
+pub fn find(s: &[u8], kind: u32, width: u8) -> Found
+    ensures { λ r. ⌜ r ≡ lookup (now (s .entry)) kind width ⌝ }
+{
+    let w = walk(s, kind, width);
+    w.found
 }
 
 pub fn is_at(f: Found) -> bool
