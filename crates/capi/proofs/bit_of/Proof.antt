@@ -1,0 +1,16 @@
+use Rattle.capi.specs.Outcome.{bitOf}
+use Rattle.capi.proofs.bit_of.Statement.{statement}
+use Rattle.capi.proofs.bit_of.Tie as tie
+use Rattle.capi.proofs.bit_of.Reads as reads
+use Rattle.capi.proofs.bit_of.Lts as lts
+
+returns : tie.Need-returns
+unfolding bitOf
+returns c = rw (c .if1 .taken)
+
+returns-2 : tie.Need-returns-2
+unfolding bitOf
+returns-2 c = rw (c .if1 .left)
+
+pub bit-of-spec : {M : Type 1} → statement M
+bit-of-spec = tie.close (tie.spec returns returns-2)
