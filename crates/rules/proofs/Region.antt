@@ -147,10 +147,6 @@ module _ (k w : ℕ) (f : Found) (s : List ℕ) (i : ℕ) where
   scan-other x e h =
       rw (tlvs-next s i x e) (ap (λ (b : Bool). scan k w (choose b (meet w x f) f) (tlvs s (tlvEnd x))) (ne-eqb (x .kind) k h))
 
-  pub scan-end : stepAt s i ≡ End → scan k w f (tlvs s i) ≡ f
+  pub scan-stops : tlvs s i ≡ [] → scan k w f (tlvs s i) ≡ f
   unfolding scan
-  scan-end e = rw (tlvs-end s i e)
-
-  pub scan-fault : stepAt s i ≡ Fault → scan k w f (tlvs s i) ≡ f
-  unfolding scan
-  scan-fault e = rw (tlvs-fault s i e)
+  scan-stops e = rw e

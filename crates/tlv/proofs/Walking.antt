@@ -11,7 +11,7 @@ use Rattle.rules.specs.declared.Tlv.{Tlv}
 use Rattle.rules.specs.declared.Found.{Found}
 use Rattle.rules.specs.declared.Found.the-variants.{Absent}
 use Rattle.rules.specs.declared.Step.the-variants.{Next, End, Fault}
-use Rattle.rules.proofs.Region.{Reached, reached-next, reached-end, reached-fault, step-inside, after-next, scan-same, scan-other, scan-end, scan-fault}
+use Rattle.rules.proofs.Region.{Reached, reached-next, reached-end, reached-fault, step-inside, after-next, tlvs-end, tlvs-fault, scan-same, scan-other, scan-stops}
 
 -- Where a walk stands: it comes by the position, and the rest of the region decides what is found
 pub record Walking (s : List ℕ) (kind width at : ℕ) (found : Found) : Type 0 where
@@ -39,7 +39,7 @@ module _ {s : List ℕ} {kind width at : ℕ} {found : Found} (w : Walking s kin
 
   -- it stops at the region's end, or at a fault
   pub walking-ends : stepAt s at ≡ End → (found ≡ lookup s kind width) × (true ≡ wellFormed s)
-  walking-ends e = (sym (w .finds ∙ scan-end kind width found s at e), sym (reached-end s at e (w .reached)))
+  walking-ends e = (sym (w .finds ∙ scan-stops kind width found s at (tlvs-end s at e)), sym (reached-end s at e (w .reached)))
 
   pub walking-fails : stepAt s at ≡ Fault → (found ≡ lookup s kind width) × (false ≡ wellFormed s)
-  walking-fails e = (sym (w .finds ∙ scan-fault kind width found s at e), sym (reached-fault s at e (w .reached)))
+  walking-fails e = (sym (w .finds ∙ scan-stops kind width found s at (tlvs-fault s at e)), sym (reached-fault s at e (w .reached)))
