@@ -1,6 +1,7 @@
 """What tests/run and tests/damage share: both sides are built, run on the same input and compared.
 
-The sides are the proved programs (target/bin/console, target/bin/replay) and the second implementation (tests/model)."""
+The sides are the proved programs (target/bin/console, target/bin/replay), the proved device through its C interface (tests/interface) and
+the second implementation (tests/model)."""
 import argparse
 import collections
 import concurrent.futures
@@ -18,6 +19,8 @@ ROOT = pathlib.Path(__file__).resolve().parent.parent
 MODEL = str(ROOT / "tests/model/target/release/model")
 CONSOLE = str(ROOT / "target/bin/console")
 REPLAY = str(ROOT / "target/bin/replay")
+INTERFACE = str(ROOT / "tests/interface/target/release/interface")
+ARCHIVE = ROOT / "target/staticlib/libcapi.a"
 KEPT = ROOT / "target/disagreement"
 PATIENCE = 120  # seconds after which a run counts as one that does not end
 
@@ -45,11 +48,15 @@ class Disagreement(Exception):
 
 
 def build():
-    """The model (cargo says itself whether there is anything to do), and the programs where they are missing."""
-    subprocess.run(["cargo", "build", "--release", "--offline", "--quiet"], cwd=ROOT / "tests/model", check=True)
+    """The programs and the archive where they are missing, and what cargo builds (it says itself whether there is anything to do)."""
     if not (pathlib.Path(CONSOLE).exists() and pathlib.Path(REPLAY).exists()):
         print("building console and replay and proving what they stand on; this takes some minutes the first time", flush=True)
         subprocess.run(["rt", "check", "console", "replay"], cwd=ROOT, check=True)
+    if not ARCHIVE.exists():
+        print(f"building {ARCHIVE.relative_to(ROOT)} and proving what it stands on", flush=True)
+        subprocess.run(["rt", "staticlib", "capi"], cwd=ROOT, check=True)
+    for package in ("tests/model", "tests/interface"):
+        subprocess.run(["cargo", "build", "--release", "--offline", "--quiet"], cwd=ROOT / package, check=True)
 
 
 def generated(*words):
@@ -143,20 +150,27 @@ def handed_over(data, piped, folder):
     return path
 
 
-def compare_console(script, source):
-    """Both consoles on a script that reaches them through `source`. Gives the model's output and the lines that are no calls."""
-    mine, other = run([CONSOLE], source), run([MODEL, "console"], source)
+def compare_side(name, mine, other, script):
+    """What a side makes of a script, beside the model."""
     named, expected = named_lines(mine.err), named_lines(other.err)
-    what = ending("console", mine, other)
+    what = ending(name, mine, other)
     if what is None and mine.out != other.out:
         at, a, b = first_difference(mine.out, other.out)
         number, line = next(itertools.islice(printing(script, set(expected or [])), at, None), (0, b"(none)"))
-        what = f"line {number}, {shortened(line)}: console prints {shortened(a)}, the model {shortened(b)}"
+        what = f"line {number}, {shortened(line)}: {name} prints {shortened(a)}, the model {shortened(b)}"
     if what is None and (named is None or named != expected):
-        what = "standard error names other lines or says something else"
+        what = f"standard error of {name} names other lines or says something else"
     if what is not None:
-        raise Disagreement(what, "script", script, {"console": mine, "model": other})
-    return other.out, set(expected)
+        raise Disagreement(what, "script", script, {name: mine, "model": other})
+
+
+def compare_console(script, source):
+    """The console and the C interface beside the model, on a script that reaches them through `source`. Gives the model's output and the
+    lines that are no calls."""
+    other = run([MODEL, "console"], source)
+    compare_side("console", run([CONSOLE], source), other, script)
+    compare_side("interface", run([INTERFACE], source), other, script)
+    return other.out, set(named_lines(other.err))
 
 
 def compare_replay(journal, way, folder):

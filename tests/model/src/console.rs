@@ -1,6 +1,6 @@
 //! The two drivers that read scripts: calls of the device, and payloads alone.
 
-use crate::device::{inside, Device};
+use crate::device::{inside, Calls, Device};
 use crate::frame::LIST;
 use crate::journal::LONGEST;
 use crate::registers::Refusal;
@@ -87,13 +87,25 @@ fn text(line: &[u8]) -> Result<Option<&str>, String> {
         .map_err(|_| "line is no text".to_string())
 }
 
-#[derive(Clone, Debug, Default)]
-pub struct Console {
+/// A script's guest memory, and its device once there is one.
+#[derive(Clone, Debug)]
+pub struct Driver<D> {
     pub memory: Vec<u8>,
-    pub device: Option<Device>,
+    pub device: Option<D>,
 }
 
-impl Console {
+pub type Console = Driver<Device>;
+
+impl<D> Default for Driver<D> {
+    fn default() -> Self {
+        Driver {
+            memory: Vec::new(),
+            device: None,
+        }
+    }
+}
+
+impl<D: Calls> Driver<D> {
     pub fn line(&mut self, line: &[u8]) -> Outcome {
         let Some(text) = text(line)? else {
             return Ok(None);
@@ -119,7 +131,7 @@ impl Console {
             }
             ["fresh", ports, switch_id] => {
                 let (ports, switch_id) = (number(ports)?, number(switch_id)?);
-                Ok(Some(match Device::fresh(ports, switch_id) {
+                Ok(Some(match D::fresh(ports, switch_id) {
                     Ok(device) => {
                         self.device = Some(device);
                         "0".to_string()
@@ -164,10 +176,10 @@ impl Console {
                     Err(refusal) => refused(refusal, "- -"),
                 }
             }
-            ["frame", port, data] => frame(device?, number(port)?, &bytes(data)?, LIST),
+            ["frame", port, data] => frame(&*device?, number(port)?, &bytes(data)?, LIST),
             ["frame", port, data, list] => {
                 let (port, data, list) = (number(port)?, bytes(data)?, length(list, LIST_LIMIT)?);
-                frame(device?, port, &data, list)
+                frame(&*device?, port, &data, list)
             }
             ["header", room] => {
                 let mut room = vec![0; length(room, ROOM_LIMIT)?];
@@ -181,7 +193,7 @@ impl Console {
     }
 }
 
-fn frame(device: &Device, port: u64, data: &[u8], list: usize) -> String {
+fn frame<D: Calls>(device: &D, port: u64, data: &[u8], list: usize) -> String {
     let mut list = vec![0; list];
     match device.frame(port, data, &mut list) {
         Ok(count) => {

@@ -52,6 +52,47 @@ fn payload(memory: &[u8], descriptor: &[u8]) -> Result<Vec<u8>, Status> {
     Ok(memory[buffer][..usize::from(tlv_size)].to_vec())
 }
 
+/// The calls of a device, whichever implementation carries them out.
+pub trait Calls: Sized {
+    fn fresh(ports: u64, switch_id: u64) -> Result<Self, Refusal>;
+    fn link(&mut self, port: u64, up: bool) -> Result<(), Refusal>;
+    fn read(&self, width: u64, offset: u64) -> Result<u64, Refusal>;
+    fn write(&mut self, width: u64, offset: u64, value: u64) -> Result<bool, Refusal>;
+    fn work(&mut self, memory: &mut [u8], room: &mut [u8]) -> Result<Worked, Refusal>;
+    fn frame(&self, port: u64, frame: &[u8], list: &mut [u16]) -> Result<usize, Refusal>;
+    fn header(&self, room: &mut [u8]) -> Result<usize, Refusal>;
+}
+
+impl Calls for Device {
+    fn fresh(ports: u64, switch_id: u64) -> Result<Self, Refusal> {
+        Device::fresh(ports, switch_id)
+    }
+
+    fn link(&mut self, port: u64, up: bool) -> Result<(), Refusal> {
+        Device::link(self, port, up)
+    }
+
+    fn read(&self, width: u64, offset: u64) -> Result<u64, Refusal> {
+        Device::read(self, width, offset)
+    }
+
+    fn write(&mut self, width: u64, offset: u64, value: u64) -> Result<bool, Refusal> {
+        Device::write(self, width, offset, value)
+    }
+
+    fn work(&mut self, memory: &mut [u8], room: &mut [u8]) -> Result<Worked, Refusal> {
+        Device::work(self, memory, room)
+    }
+
+    fn frame(&self, port: u64, frame: &[u8], list: &mut [u16]) -> Result<usize, Refusal> {
+        Device::frame(self, port, frame, list)
+    }
+
+    fn header(&self, room: &mut [u8]) -> Result<usize, Refusal> {
+        Device::header(self, room)
+    }
+}
+
 impl Device {
     pub fn fresh(ports: u64, switch_id: u64) -> Result<Self, Refusal> {
         if !(1..=62).contains(&ports) {

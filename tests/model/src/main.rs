@@ -1,16 +1,6 @@
-//! A second implementation of the device, to be compared with the first.
+//! The commands of the second implementation.
 
-mod console;
-mod device;
-mod frame;
-mod generate;
-mod journal;
-mod registers;
-mod tables;
-#[cfg(test)]
-mod tests;
-mod tlv;
-
+use model::{console, generate, journal};
 use std::io::{self, Read, Write};
 use std::process::ExitCode;
 

@@ -15,6 +15,15 @@ pub enum Refusal {
 }
 
 impl Refusal {
+    /// The refusal of an answer; `None` for 0, which is done, and for numbers that no call of the device answers.
+    pub fn of(answer: u64) -> Option<Self> {
+        use Refusal::*;
+        let all = [
+            Access, Value, Idle, Credits, Descriptor, Room, Port, Frame, List,
+        ];
+        all.into_iter().find(|refusal| refusal.number() == answer)
+    }
+
     pub fn number(self) -> u64 {
         self as u64
     }

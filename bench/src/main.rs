@@ -1,0 +1,249 @@
+//! How long calls take on the proved device (through its C interface) and on the second implementation, built for release.
+
+mod payload;
+
+use interface::Rocker;
+use model::device::{Calls, Device};
+use payload::{FLOW_ADD, FLOW_MOD};
+use std::hint::black_box;
+use std::process::{Command, Stdio};
+use std::time::Instant;
+
+const HEAD: u64 = 0x100c;
+const CREDITS: u64 = 0x1018;
+const RING: u64 = 512;
+const PLACE: usize = 0x8000;
+const RECORDS: u64 = 1_000_000;
+
+/// The middle one of the samples, in ns.
+fn median(mut samples: Vec<f64>) -> f64 {
+    samples.sort_by(f64::total_cmp);
+    samples[samples.len() / 2]
+}
+
+/// What one of so many runs in a row takes.
+fn batch(runs: u32, mut run: impl FnMut()) -> f64 {
+    let samples = (0..101).map(|_| {
+        let began = Instant::now();
+        (0..runs).for_each(|_| run());
+        began.elapsed().as_nanos() as f64 / f64::from(runs)
+    });
+    median(samples.collect())
+}
+
+/// A switch of 62 ports, all up and enabled, with its guest.
+struct Host<D> {
+    device: D,
+    memory: Vec<u8>,
+    room: Vec<u8>,
+    head: u64,
+}
+
+impl<D: Calls> Host<D> {
+    fn new() -> Self {
+        let mut device = D::fresh(62, 1).expect("62 ports");
+        for port in 1..=62 {
+            device.link(port, true).expect("a port");
+        }
+        device.write(8, 0x1000, 0).expect("BASE_ADDR");
+        device.write(4, 0x1008, RING).expect("SIZE");
+        device.write(8, 0x0318, u64::MAX).expect("PORT_PHYS_ENABLE");
+        Host {
+            device,
+            memory: vec![0; 65536],
+            room: vec![0; 8192],
+            head: 0,
+        }
+    }
+
+    fn post(&mut self, payload: &[u8]) {
+        self.memory[PLACE..PLACE + payload.len()].copy_from_slice(payload);
+        let at = 32 * self.head as usize;
+        let descriptor = payload::descriptor(PLACE as u64, payload.len());
+        self.memory[at..at + 32].copy_from_slice(&descriptor);
+        self.head = (self.head + 1) % RING;
+        self.device.write(4, HEAD, self.head).expect("HEAD");
+    }
+
+    /// Posts a command and processes it; the ns of the process call, and the status.
+    fn carry_out(&mut self, payload: &[u8]) -> (f64, u16) {
+        self.post(payload);
+        let began = Instant::now();
+        let done = self.device.work(&mut self.memory, &mut self.room);
+        let took = began.elapsed().as_nanos() as f64;
+        done.expect("a slot");
+        self.device.write(4, CREDITS, 1).expect("CREDITS");
+        (took, u16::from_le_bytes([self.room[0], self.room[1]]) % 0x8000)
+    }
+
+    fn ok(&mut self, payload: &[u8]) -> f64 {
+        let (took, status) = self.carry_out(payload);
+        assert_eq!(status, 0, "the status of a command");
+        took
+    }
+
+    fn with_flows(flows: u64) -> Self {
+        let mut host = Self::new();
+        for cookie in 1..=flows {
+            host.ok(&payload::ingress(FLOW_ADD, cookie));
+        }
+        host
+    }
+
+    /// One flow each in tables 0 and 10, and 248 stations in table 50: the first station's flow has the lowest cookie of them. 62
+    /// groups of one port, and a flood of all of them.
+    fn bridge() -> Self {
+        let mut host = Self::new();
+        for port in 1..=62 {
+            host.ok(&payload::interface(port));
+        }
+        host.ok(&payload::flood(1));
+        host.ok(&payload::ingress(FLOW_ADD, 1));
+        host.ok(&payload::vlan(FLOW_ADD, 2));
+        for station in 1..=247 {
+            let group = payload::interface_id(2 + station as u32 % 60);
+            host.ok(&payload::bridge(FLOW_ADD, 2 + station, payload::mac(station), group));
+        }
+        // The 250th flow: all stations at once.
+        let everybody = [0xff; 6];
+        host.ok(&payload::bridge(FLOW_ADD, 250, everybody, payload::flood_id(1)));
+        host
+    }
+
+    fn frame(&self, to: [u8; 6], copies: usize) -> f64 {
+        let frame = payload::frame(to);
+        let mut list = [0; 186];
+        batch(200, || {
+            let done = self.device.frame(1, black_box(&frame), &mut list);
+            assert_eq!(done, Ok(copies), "the copies of a frame");
+        })
+    }
+}
+
+/// The ns of each case, in the order of `CASES`.
+fn cases<D: Calls>() -> Vec<f64> {
+    let mut all = Vec::new();
+    for flows in [0, 128, 250] {
+        let mut host = Host::<D>::with_flows(flows);
+        let (last, next) = (flows, flows + 1);
+        let (mut mods, mut adds, mut dels) = (Vec::new(), Vec::new(), Vec::new());
+        for _ in 0..2000 {
+            let (took, status) = host.carry_out(&payload::ingress(FLOW_MOD, last));
+            assert_eq!(status, if flows == 0 { 2 } else { 0 });
+            mods.push(took);
+            adds.push(host.ok(&payload::ingress(FLOW_ADD, next)));
+            dels.push(host.ok(&payload::flow_del(next)));
+        }
+        all.extend([median(mods), median(adds), median(dels)]);
+    }
+    let mut host = Host::<D>::bridge();
+    let floods = (0..500).map(|_| {
+        let took = host.ok(&payload::flood(2));
+        host.ok(&payload::group_del(payload::flood_id(2)));
+        took
+    });
+    all.push(median(floods.collect()));
+    all.push(batch(1000, || {
+        let written = host.device.write(4, HEAD, black_box(host.head));
+        assert_eq!(written, Ok(false));
+    }));
+    all.push(batch(1000, || {
+        assert!(host.device.read(4, black_box(CREDITS)).is_ok());
+    }));
+    all.push(host.frame(payload::mac(1), 1));
+    all.push(host.frame(payload::mac(247), 1));
+    all.push(host.frame(payload::mac(300), 0));
+    all.push(host.frame([0xff; 6], 61));
+    all
+}
+
+#[derive(Clone, Copy)]
+enum Yardstick {
+    Copy,
+    Scan,
+    None,
+}
+
+const CASES: [(&str, Yardstick); 16] = [
+    ("process, flow mod, 0 live (ENOENT)", Yardstick::Copy),
+    ("process, flow add, 0 live", Yardstick::Copy),
+    ("process, flow del, 1 live", Yardstick::Copy),
+    ("process, flow mod, 128 live", Yardstick::Copy),
+    ("process, flow add, 128 live", Yardstick::Copy),
+    ("process, flow del, 129 live", Yardstick::Copy),
+    ("process, flow mod, 250 live", Yardstick::Copy),
+    ("process, flow add, 250 live", Yardstick::Copy),
+    ("process, flow del, 251 live", Yardstick::Copy),
+    ("process, group add, 62 members", Yardstick::Copy),
+    ("HEAD write", Yardstick::None),
+    ("CREDITS read", Yardstick::None),
+    ("frame, unicast, first of 250 flows", Yardstick::Scan),
+    ("frame, unicast, last of 250 flows", Yardstick::Scan),
+    ("frame, miss, 250 flows", Yardstick::Scan),
+    ("frame, flood of 62", Yardstick::Scan),
+];
+
+/// A copy of 48 KiB.
+fn copy() -> f64 {
+    let from = vec![1u8; 48 << 10];
+    let mut to = vec![0u8; 48 << 10];
+    batch(200, || {
+        to.copy_from_slice(black_box(&from));
+        black_box(&mut to);
+    })
+}
+
+/// A search through 256 structs of 64 bytes for one number.
+fn scan() -> f64 {
+    #[derive(Clone, Copy)]
+    #[repr(C, align(64))]
+    struct Entry([u64; 8]);
+    let entries: Vec<Entry> = (0..256).map(|k| Entry([k; 8])).collect();
+    batch(1000, || {
+        let wanted = black_box(1000);
+        black_box(black_box(&entries).iter().position(|e| e.0[0] == wanted));
+    })
+}
+
+/// Replay of a million records, ns a record: the program `replay` on a file, and the second implementation on the same file.
+fn replay(root: &str) -> (f64, f64) {
+    let path = format!("{root}/target/bench.trail");
+    std::fs::write(&path, payload::journal(RECORDS)).expect("the journal");
+    let began = Instant::now();
+    let program = Command::new(format!("{root}/target/bin/replay"))
+        .arg(&path)
+        .stderr(Stdio::inherit())
+        .output()
+        .expect("target/bin/replay");
+    let mine = began.elapsed().as_nanos() as f64;
+    let began = Instant::now();
+    let report = model::journal::report(&std::fs::read(&path).expect("the journal"));
+    let other = began.elapsed().as_nanos() as f64;
+    assert_eq!(String::from_utf8_lossy(&program.stdout), report);
+    std::fs::remove_file(&path).expect("the journal");
+    (mine / RECORDS as f64, other / RECORDS as f64)
+}
+
+fn row(name: &str, mine: f64, other: f64, yardstick: Option<f64>) {
+    let ratio = yardstick.map_or("".to_string(), |y| format!("{:.1}", mine / y));
+    println!("| {name} | {mine:.0} | {other:.0} | {:.2} | {ratio} |", mine / other);
+}
+
+fn main() {
+    let (copied, scanned) = (copy(), scan());
+    let (mine, other) = (cases::<Rocker>(), cases::<Device>());
+    println!("| call | ns | ns, model | ratio to the model | ratio to the yardstick |");
+    println!("|---|---|---|---|---|");
+    println!("| yardstick: copy of 48 KiB | {copied:.0} | | | |");
+    println!("| yardstick: scan of 256 structs | {scanned:.0} | | | |");
+    for ((&(name, by), &mine), &other) in CASES.iter().zip(&mine).zip(&other) {
+        let yardstick = match by {
+            Yardstick::Copy => Some(copied),
+            Yardstick::Scan => Some(scanned),
+            Yardstick::None => None,
+        };
+        row(name, mine, other, yardstick);
+    }
+    let (mine, other) = replay(concat!(env!("CARGO_MANIFEST_DIR"), "/.."));
+    row("replay, a record of a million", mine, other, None);
+}

@@ -1,0 +1,12 @@
+//! A second implementation of the device, to be compared with the first.
+
+pub mod console;
+pub mod device;
+pub mod frame;
+pub mod generate;
+pub mod journal;
+pub mod registers;
+pub mod tables;
+#[cfg(test)]
+mod tests;
+pub mod tlv;
