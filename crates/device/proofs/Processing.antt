@@ -15,17 +15,21 @@ use Rattle.rules.specs.Descriptor.{Fetched, descriptorAt, descriptor, completio
 use Rattle.rules.specs.Tables.{Tables, tablesOf}
 use Rattle.rules.specs.Journal.{recordOf, completion}
 use Rattle.rules.specs.Switch.{Switch, Borrowed, Carried, switchOf, carry, carriedSlot, slotRecord, processRefusal, processEffect, refusal, effect, step}
+use Rattle.rules.specs.declared.Answer.{Answer}
+use Rattle.rules.specs.declared.Ring.{Ring}
 use Rattle.rules.specs.declared.Answer.the-variants.{Done, RingEmpty, CreditsFull, DescriptorOutside, BufferShort}
 use Rattle.rules.specs.declared.Device.{Device}
 use Rattle.rules.specs.declared.Descriptor.{Descriptor}
 use Rattle.rules.specs.declared.Request.the-variants.{Process}
-use Rattle.rules.proofs.Cases.{by-test}
+use Rattle.rules.proofs.Cases.{by-test, not-both}
 use Rattle.rules.proofs.Journal.{length-record}
 use Rattle.device.specs.Outcome.{Outcome, borrowed, quiet}
 use Rattle.device.specs.Fetching.{handed, Fetches, carriedBy}
-use Rattle.device.specs.Completion.{Completes}
+use Rattle.device.specs.Completion.{Ready, Takes}
+use Rattle.device.proofs.Completion.{Completes}
 use Rattle.device.specs.declared.Called.{Called}
 use Rattle.device.specs.declared.slot.Slot.{Slot}
+use Rattle.device.specs.declared.slot.Taken.{Taken}
 use Rattle.device.proofs.Outcome.{outcome-refused, outcome-done}
 
 -- what is recorded is the part of memory that the slot names: of a fault, nothing
@@ -121,3 +125,50 @@ module _ (d : Device) (memory frame buffer list : List ℕ) where
             outcome-done d here Process r memory′ buffer′ list
             (unfold refusal processRefusal switchOf borrowed in rw (ne-eqb _ _ busy, lt-leb _ _ room, within, record-length, le-ltb _ _ h))
             (effect-is r memory′ buffer′ c)
+
+-- ---- The same, as `slot::take` says it: of every device with this ring
+
+module _ (ring : Ring) (memory : List ℕ) (room : ℕ) where
+  abbrev Refuses : Answer → Type 0
+  Refuses a = (d : Device) (frame buffer list : List ℕ) → d .registers .ring ≡ ring → length buffer ≡ room
+      → Outcome (quiet d a) d memory buffer list (step (switchOf d) (borrowed memory frame buffer list) Process)
+
+  refusing : {r : Taken} (a : Answer) → (r .ready ≡ false) × (r .answer ≡ a) → Refuses a → Takes r ring memory room
+  refusing a is o =
+      record {
+        done = λ t. not-both (sym t ∙ is .0);
+        taken = λ t. not-both (sym t ∙ is .0);
+        refused = λ _ d frame buffer list e z. rw (is .1) (o d frame buffer list e z);
+      }
+
+  pub take-empty : {r : Taken} → (r .ready ≡ false) × (r .answer ≡ RingEmpty) → ring .head ≡ ring .tail → Takes r ring memory room
+  take-empty is h = refusing RingEmpty is (λ d frame buffer list e z. ring-empty d memory frame buffer list (rw e h))
+
+  module _ (busy : ring .head ≡ ring .tail → ⊥) where
+    pub take-full : {r : Taken} → (r .ready ≡ false) × (r .answer ≡ CreditsFull) → 65536 ≤ ring .credits → Takes r ring memory room
+    take-full is h = refusing CreditsFull is (λ d frame buffer list e z. credits-full d memory frame buffer list (rw e busy) (rw e h))
+
+    module _ (credit : ring .credits < 65536) where
+      pub take-outside : {r : Taken} → (r .ready ≡ false) × (r .answer ≡ DescriptorOutside) → inside (descriptorAt ring) 32 memory ≡ false → Takes r ring memory room
+      take-outside is h =
+          refusing DescriptorOutside is
+          (λ d frame buffer list e z. descriptor-outside d memory frame buffer list (rw e busy) (rw e credit) (rw e h))
+
+      module _ (within : inside (descriptorAt ring) 32 memory ≡ true) (at : ℕ) (stands : at ≡ descriptorAt ring) (x : Descriptor)
+          (reads : x ≡ descriptor memory at) (s : Slot) (f : Fetches s memory x) where
+        pub take-short : {r : Taken} → (r .ready ≡ false) × (r .answer ≡ BufferShort) → room < 6 + s .size → Takes r ring memory room
+        take-short is h =
+            refusing BufferShort is
+            (λ d frame buffer list e z.
+            buffer-short d memory frame buffer list (rw e busy) (rw e credit) (rw e within) at (rw e stands) x reads s f (rw z h))
+
+        pub take-ready : 6 + s .size ≤ room → Ready s at ring memory room
+        take-ready h =
+            record { posted = busy; uncredited = credit; within = within; stands = stands; fetches = rw reads at f; fits = h }
+
+-- a slot that is ready, completed
+pub ready-processed : (d : Device) (memory frame buffer list : List ℕ) (s : Slot) (at : ℕ) → Ready s at (d .registers .ring) memory (length buffer)
+    → (r : Called) (memory′ buffer′ : List ℕ) → Completes r d s at memory memory′ buffer buffer′
+    → Outcome r d memory′ buffer′ list (step (switchOf d) (borrowed memory frame buffer list) Process)
+ready-processed d memory frame buffer list s at t r memory′ buffer′ c =
+    processed d memory frame buffer list (t .posted) (t .uncredited) (t .within) at (t .stands) _ refl s (t .fetches) r memory′ buffer′ (t .fits) c

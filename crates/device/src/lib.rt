@@ -8,15 +8,12 @@ use rules::Device;
 use rules::Registers;
 use rules::Request;
 use rules::Status;
-use slot::Slot;
 ghost use mathlib.Core.Path.{_≡_};
 ghost use mathlib.Core.List.{List};
-ghost use Prim.Native.Nat.{ℕ, _+_, _≤_, _<_};
-ghost use lib.ListN.{length};
+ghost use Prim.Native.Nat.{ℕ};
 ghost use Rattle.rules.specs.Tables.{tablesOf, emptyTables};
 ghost use Rattle.rules.specs.Switch.{Borrowed, switchOf, step};
 ghost use Rattle.rules.specs.declared.Request.the-variants.{Read, Write, Link, Process, Frame, Header};
-ghost use Rattle.device.specs.Completion.{Completes};
 ghost use Rattle.device.specs.Outcome.{Outcome, Makes, borrowed, quiet};
 
 // What a call gives: the answer; the value that a read gives; whether vector 0 was raised; the completion that process wrote, 0 for
@@ -151,74 +148,55 @@ pub fn header(d: Device, buffer: &mut [u8]) -> Called
     r
 }
 
-// A slot that may be completed: carried out and recorded, its two status bytes written, TAIL and CREDITS moved on.
-fn complete(d: Device, memory: &mut [u8], buffer: &mut [u8], at: usize, s: Slot) -> Called
-    requires { ⌜ (at + 32 ≤ length (now memory)) × (s .start + s .size ≤ length (now memory)) × (6 + s .size ≤ length (now buffer)) × (d .registers .ring .credits < 65536) ⌝ }
-    ensures { λ r. ⌜ Completes r d s at (now (memory .entry)) (now (memory .exit)) (now (buffer .entry)) (now (buffer .exit)) ⌝ }
-{
-    let regs = d.registers;
-    let ring = regs.ring;
-    let q = slot::request_of(memory, s, regs.ports);
-    let what = q.what;
-    let members = q.members;
-    let mut flows = d.flows;
-    let mut groups = d.groups;
-    let mut status = Status::Ok;
-    if execute::changes_flows(what) {
-        let r = execute::on_flows(what, flows);
-        status = r.status;
-        flows = r.table;
-    } else {
-        let r = execute::on_groups(what, members, groups);
-        status = r.status;
-        groups = r.table;
-    }
-    slot::record(memory, buffer, s, status, ring.tail);
-    let completed = journal::writer::completion(status);
-    wire::put16(memory, at + 30, completed);
-    let mut after = regs;
-    let next = registers::complete(ring);
-    after.ring = next;
-    Called {
-        answer: Answer::Done,
-        value: 0,
-        interrupt: registers::complete_interrupt(ring),
-        completed: completed,
-        length: 6 + s.size,
-        outputs: 0,
-        device: Device {
-            registers: after,
-            flows: flows,
-            groups: groups,
-        },
-    }
-}
-
-// Process one slot (document 01: the work call): consume the descriptor at TAIL, or say why not.
+// Process one slot (document 01: the work call): consume the descriptor at TAIL, or say why not. The device is changed in one place
+// and handed back by one way out: what is compiled then copies it least.
 pub fn process(d: Device, memory: &mut [u8], buffer: &mut [u8]) -> Called
     ensures { λ r. ⌜ ((frame list : List ℕ) → Outcome r d (now (memory .exit)) (now (buffer .exit)) list (step (switchOf d) (borrowed (now (memory .entry)) frame (now (buffer .entry)) list) Process)) ⌝ }
 {
     let regs = d.registers;
     let ring = regs.ring;
-    if ring.head == ring.tail {
-        return answered(d, Answer::RingEmpty);
+    let t = slot::take(memory, ring, buffer.len());
+    let answer = t.answer;
+    let s = t.slot;
+    let mut next = d;
+    let mut interrupt = false;
+    let mut completed: u16 = 0;
+    let mut length: usize = 0;
+    if t.ready {
+        let q = slot::request_of(memory, s, regs.ports);
+        let what = q.what;
+        let members = q.members;
+        let mut status = Status::Ok;
+        if execute::changes_flows(what) {
+            let flows = next.flows;
+            let r = execute::on_flows(what, flows);
+            status = r.status;
+            let after = r.table;
+            next.flows = after;
+        } else {
+            let groups = next.groups;
+            let r = execute::on_groups(what, members, groups);
+            status = r.status;
+            let after = r.table;
+            next.groups = after;
+        }
+        completed = slot::finish(memory, buffer, t.at, s, status, ring.tail);
+        length = 6 + s.size;
+        interrupt = registers::complete_interrupt(ring);
+        let mut moved = regs;
+        let after = registers::complete(ring);
+        moved.ring = after;
+        next.registers = moved;
     }
-    if 65536 <= ring.credits {
-        return answered(d, Answer::CreditsFull);
+    Called {
+        answer: answer,
+        value: 0,
+        interrupt: interrupt,
+        completed: completed,
+        length: length,
+        outputs: 0,
+        device: next,
     }
-    if !slot::descriptor_inside(memory, ring) {
-        return answered(d, Answer::DescriptorOutside);
-    }
-    let at = slot::descriptor_at(memory, ring);
-    let descriptor = slot::descriptor(memory, at);
-    let s = slot::fetch(memory, descriptor);
-    if buffer.len() < 6 {
-        return answered(d, Answer::BufferShort);
-    }
-    if buffer.len() - 6 < s.size {
-        return answered(d, Answer::BufferShort);
-    }
-    complete(d, memory, buffer, at, s)
 }
 
 // A frame in at a port: its outputs, to the start of the list.

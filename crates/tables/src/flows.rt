@@ -1,4 +1,5 @@
-// The flow table. A command searches and changes one copy of the table and has one exit, since copies cost the most.
+// The flow table. A command searches and changes one copy of the entries and has one exit, since copies cost the
+// most.
 use crate::FlowChange;
 use crate::least;
 use rules::FlowEntry;
@@ -39,13 +40,14 @@ pub fn fresh_flows() -> FlowTable
 pub fn flow_add(t: FlowTable, e: FlowEntry) -> FlowChange
     ensures { λ r. ⌜ Changed liveFlows t (addStatus cookieOf 256 (e .cookie) (liveFlows t)) (insert cookieOf e (liveFlows t)) (r .status) (r .table) ⌝ }
 {
-    let mut next = t;
+    let mut entries = t.entries;
+    let mut count = t.count;
     let n = least(t.count, 256);
     let key = e.cookie;
     let mut at: usize = 0;
     let mut held = false;
     while at < n {
-        let f = next.entries[at];
+        let f = entries[at];
         if key <= f.cookie {
             held = f.cookie == key;
             break;
@@ -59,18 +61,21 @@ pub fn flow_add(t: FlowTable, e: FlowEntry) -> FlowChange
         let mut i = n;
         while at < i {
             let j = i - 1;
-            let f = next.entries[j];
-            next.entries[i] = f;
+            let f = entries[j];
+            entries[i] = f;
             i = j;
         }
-        next.entries[i] = e;
-        next.count = n + 1;
+        entries[i] = e;
+        count = n + 1;
     } else {
         status = Status::Enomem;
     }
     FlowChange {
         status: status,
-        table: next,
+        table: FlowTable {
+            count: count,
+            entries: entries,
+        },
     }
 }
 
@@ -78,13 +83,13 @@ pub fn flow_add(t: FlowTable, e: FlowEntry) -> FlowChange
 pub fn flow_mod(t: FlowTable, e: FlowEntry) -> FlowChange
     ensures { λ r. ⌜ Changed liveFlows t (heldStatus cookieOf (e .cookie) (liveFlows t)) (replace cookieOf e (liveFlows t)) (r .status) (r .table) ⌝ }
 {
-    let mut next = t;
+    let mut entries = t.entries;
     let n = least(t.count, 256);
     let key = e.cookie;
     let mut at: usize = 0;
     let mut held = false;
     while at < n {
-        let f = next.entries[at];
+        let f = entries[at];
         if key <= f.cookie {
             held = f.cookie == key;
             break;
@@ -93,12 +98,15 @@ pub fn flow_mod(t: FlowTable, e: FlowEntry) -> FlowChange
     }
     let mut status = Status::Enoent;
     if held {
-        next.entries[at] = e;
+        entries[at] = e;
         status = Status::Ok;
     }
     FlowChange {
         status: status,
-        table: next,
+        table: FlowTable {
+            count: t.count,
+            entries: entries,
+        },
     }
 }
 
@@ -106,12 +114,13 @@ pub fn flow_mod(t: FlowTable, e: FlowEntry) -> FlowChange
 pub fn flow_del(t: FlowTable, cookie: u64) -> FlowChange
     ensures { λ r. ⌜ Changed liveFlows t (heldStatus cookieOf cookie (liveFlows t)) (remove cookieOf cookie (liveFlows t)) (r .status) (r .table) ⌝ }
 {
-    let mut next = t;
+    let mut entries = t.entries;
+    let mut count = t.count;
     let n = least(t.count, 256);
     let mut at: usize = 0;
     let mut held = false;
     while at < n {
-        let f = next.entries[at];
+        let f = entries[at];
         if cookie <= f.cookie {
             held = f.cookie == cookie;
             break;
@@ -124,15 +133,18 @@ pub fn flow_del(t: FlowTable, cookie: u64) -> FlowChange
         let mut i = at;
         while i < last {
             let j = i + 1;
-            let f = next.entries[j];
-            next.entries[i] = f;
+            let f = entries[j];
+            entries[i] = f;
             i = j;
         }
-        next.count = last;
+        count = last;
         status = Status::Ok;
     }
     FlowChange {
         status: status,
-        table: next,
+        table: FlowTable {
+            count: count,
+            entries: entries,
+        },
     }
 }

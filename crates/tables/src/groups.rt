@@ -1,4 +1,5 @@
-// The group table. A command searches and changes one copy of the table and has one exit, since copies cost the most.
+// The group table. A command searches and changes one copy of the entries and has one exit, since copies cost the
+// most.
 use crate::GroupChange;
 use crate::least;
 use rules::GroupEntry;
@@ -29,13 +30,14 @@ pub fn fresh_groups() -> GroupTable
 pub fn group_add(t: GroupTable, e: GroupEntry) -> GroupChange
     ensures { λ r. ⌜ Changed liveGroups t (addStatus idOf 128 (e .id) (liveGroups t)) (insert idOf e (liveGroups t)) (r .status) (r .table) ⌝ }
 {
-    let mut next = t;
+    let mut entries = t.entries;
+    let mut count = t.count;
     let n = least(t.count, 128);
     let key = e.id;
     let mut at: usize = 0;
     let mut held = false;
     while at < n {
-        let g = next.entries[at];
+        let g = entries[at];
         if key <= g.id {
             held = g.id == key;
             break;
@@ -49,18 +51,21 @@ pub fn group_add(t: GroupTable, e: GroupEntry) -> GroupChange
         let mut i = n;
         while at < i {
             let j = i - 1;
-            let g = next.entries[j];
-            next.entries[i] = g;
+            let g = entries[j];
+            entries[i] = g;
             i = j;
         }
-        next.entries[i] = e;
-        next.count = n + 1;
+        entries[i] = e;
+        count = n + 1;
     } else {
         status = Status::Enomem;
     }
     GroupChange {
         status: status,
-        table: next,
+        table: GroupTable {
+            count: count,
+            entries: entries,
+        },
     }
 }
 
@@ -68,13 +73,13 @@ pub fn group_add(t: GroupTable, e: GroupEntry) -> GroupChange
 pub fn group_mod(t: GroupTable, e: GroupEntry) -> GroupChange
     ensures { λ r. ⌜ Changed liveGroups t (heldStatus idOf (e .id) (liveGroups t)) (replace idOf e (liveGroups t)) (r .status) (r .table) ⌝ }
 {
-    let mut next = t;
+    let mut entries = t.entries;
     let n = least(t.count, 128);
     let key = e.id;
     let mut at: usize = 0;
     let mut held = false;
     while at < n {
-        let g = next.entries[at];
+        let g = entries[at];
         if key <= g.id {
             held = g.id == key;
             break;
@@ -83,12 +88,15 @@ pub fn group_mod(t: GroupTable, e: GroupEntry) -> GroupChange
     }
     let mut status = Status::Enoent;
     if held {
-        next.entries[at] = e;
+        entries[at] = e;
         status = Status::Ok;
     }
     GroupChange {
         status: status,
-        table: next,
+        table: GroupTable {
+            count: t.count,
+            entries: entries,
+        },
     }
 }
 
@@ -96,12 +104,13 @@ pub fn group_mod(t: GroupTable, e: GroupEntry) -> GroupChange
 pub fn group_del(t: GroupTable, id: u32) -> GroupChange
     ensures { λ r. ⌜ Changed liveGroups t (heldStatus idOf id (liveGroups t)) (remove idOf id (liveGroups t)) (r .status) (r .table) ⌝ }
 {
-    let mut next = t;
+    let mut entries = t.entries;
+    let mut count = t.count;
     let n = least(t.count, 128);
     let mut at: usize = 0;
     let mut held = false;
     while at < n {
-        let g = next.entries[at];
+        let g = entries[at];
         if id <= g.id {
             held = g.id == id;
             break;
@@ -114,15 +123,18 @@ pub fn group_del(t: GroupTable, id: u32) -> GroupChange
         let mut i = at;
         while i < last {
             let j = i + 1;
-            let g = next.entries[j];
-            next.entries[i] = g;
+            let g = entries[j];
+            entries[i] = g;
             i = j;
         }
-        next.count = last;
+        count = last;
         status = Status::Ok;
     }
     GroupChange {
         status: status,
-        table: next,
+        table: GroupTable {
+            count: count,
+            entries: entries,
+        },
     }
 }

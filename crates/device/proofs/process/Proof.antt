@@ -1,109 +1,104 @@
-use mathlib.Core.Path.{sym, _∙_}
-use borrow.Author.Tests.{not-true, not-false}
-use Rattle.device.proofs.Fetching.{is-inside}
-use Rattle.device.proofs.Processing.{ring-empty, credits-full, descriptor-outside, buffer-short, processed}
+use mathlib.Core.Path.{refl, sym, _∙_}
+use mathlib.Core.Logic.{⊎-elim}
 use native.Mathlib.Omega.{arith}
 use borrow.Author.Needs.{needs}
+use Rattle.rules.specs.Tables.{carryOut}
+use Rattle.execute.proofs.Carried.{flows-part, groups-part}
+use Rattle.device.specs.Outcome.{quiet}
+use Rattle.device.proofs.Fetching.{is-inside}
+use Rattle.device.proofs.Completion.{result, carries, completes}
+use Rattle.device.proofs.Processing.{ready-processed}
 use Rattle.device.proofs.process.Statement.{statement}
 use Rattle.device.proofs.process.Tie as tie
 use Rattle.device.proofs.process.Reads as reads
 use Rattle.device.proofs.process.Lts as lts
-use Rattle.device.proofs.answered.Reads as answered-reads
-use Rattle.device.proofs.complete.Reads as complete-reads
-use Rattle.device.proofs.slot.descriptor.Reads as descriptor-reads
-use Rattle.device.proofs.slot.descriptor_at.Reads as descriptor-at-reads
-use Rattle.device.proofs.slot.descriptor_inside.Reads as descriptor-inside-reads
-use Rattle.device.proofs.slot.fetch.Reads as fetch-reads
+use Rattle.device.proofs.slot.finish.Reads as finish-reads
+use Rattle.device.proofs.slot.request_of.Reads as request-of-reads
+use Rattle.device.proofs.slot.take.Reads as take-reads
+use Rattle.execute.proofs.changes_flows.Reads as changes-flows-reads
+use Rattle.execute.proofs.on_flows.Reads as on-flows-reads
+use Rattle.execute.proofs.on_groups.Reads as on-groups-reads
+use Rattle.registers.proofs.complete.Reads as complete-reads
+use Rattle.registers.proofs.complete_interrupt.Reads as complete-interrupt-reads
 
-answered-requires : tie.Need-answered-requires
-answered-requires c κs = search needs
+take-requires : tie.Need-take-requires
+take-requires c κs = search needs
 
-returns : tie.Need-returns
-returns c = λ frame list. rw (c .answered .ensures) (ring-empty _ _ frame _ list (c .before .if1 .taken))
+request-of-requires : tie.Need-request-of-requires
+request-of-requires c κs = c .before .before .before .take .ensures .taken (c .before .if1 .taken) .fetches .fits
 
-answered-requires-2 : tie.Need-answered-requires-2
-answered-requires-2 c κs = search needs
+changes-flows-requires : tie.Need-changes-flows-requires
+changes-flows-requires c κs = search needs
 
-returns-2 : tie.Need-returns-2
-returns-2 c = λ frame list. rw (c .answered2 .ensures) (credits-full _ _ frame _ list (c .before .before .before .if1 .left) (c .before .if2 .taken))
+on-flows-requires : tie.Need-on-flows-requires
+on-flows-requires c κs = search needs
 
-descriptor-inside-requires : tie.Need-descriptor-inside-requires
-descriptor-inside-requires c κs = search needs
+on-groups-requires : tie.Need-on-groups-requires
+on-groups-requires c κs = search needs
 
-answered-requires-3 : tie.Need-answered-requires-3
-answered-requires-3 c κs = search needs
+finish-requires : tie.Need-finish-requires
+finish-requires c κs =
+    let y = c .before .before .before .before .before .before .before in
+    let t = y .before .before .take .ensures .taken (y .if1 .taken) in
+    (rw (t .stands) (is-inside _ _ (t .within)), t .fetches .fits, t .fits)
+
+add-length : tie.Need-add-length
+add-length c =
+    let y = c .before .before .before .before .before .before .before .before .before .before .before .before .before in
+    let t = y .before .before .take .ensures .taken (y .if1 .taken) in
+    search (needs, t .fetches .short)
+
+complete-interrupt-requires : tie.Need-complete-interrupt-requires
+complete-interrupt-requires c κs = search needs
+
+complete-requires : tie.Need-complete-requires
+complete-requires c κs = search needs
 
 same-length : tie.Need-same-length
 same-length c = search needs
 
-returns-3 : tie.Need-returns-3
-returns-3 c = λ frame list. rw (c .answered3 .ensures) (descriptor-outside _ _ frame _ list (c .before .before .before .before .before .before .if1 .left) (c .before .before .before .before .if2 .left) (sym (c .before .before .descriptor-inside .ensures) ∙ not-true _ (c .before .if3 .taken)))
-
-descriptor-at-requires : tie.Need-descriptor-at-requires
-descriptor-at-requires c κs = is-inside _ _ (sym (c .before .before .descriptor-inside .ensures) ∙ not-false _ (c .before .if3 .left))
-
-descriptor-requires : tie.Need-descriptor-requires
-descriptor-requires c κs = rw (c .before .descriptor-at .ensures) (is-inside _ _ (sym (c .before .before .before .before .descriptor-inside .ensures) ∙ not-false _ (c .before .before .before .if3 .left)))
-
-fetch-requires : tie.Need-fetch-requires
-fetch-requires c κs = search needs
-
-answered-requires-4 : tie.Need-answered-requires-4
-answered-requires-4 c κs = search needs
-
 same-length-2 : tie.Need-same-length-2
 same-length-2 c = search needs
 
-returns-4 : tie.Need-returns-4
-returns-4 c = λ frame list. let f = c .before .before in rw (c .answered4 .ensures) (buffer-short _ _ frame _ list (f .before .before .before .before .before .before .before .before .before .before .before .if1 .left) (f .before .before .before .before .before .before .before .before .before .if2 .left) (sym (f .before .before .before .before .before .before .before .descriptor-inside .ensures) ∙ not-false _ (f .before .before .before .before .before .before .if3 .left)) _ (f .before .before .before .before .descriptor-at .ensures) _ (f .before .before .descriptor .ensures) _ (f .fetch .ensures) (search needs))
-
-sub-if5 : tie.Need-sub-if5
-sub-if5 c = search needs
-
-answered-requires-5 : tie.Need-answered-requires-5
-answered-requires-5 c κs = search needs
+returns : tie.Need-returns
+unfolding result carryOut
+returns c =
+    let f = c .before .before .before .before .before .before .before in
+    let j = f .before .before .before in
+    let q = j .before .before .before in
+    let y = q .before .before in
+    let t = y .before .before .take .ensures .taken (y .if1 .taken) in
+    λ frame list. ready-processed _ _ frame _ list _ _ t _ _ _
+    (completes _ _ _ _ _ _ _ _ _ _ _ _ _ _ (y .before .before .take .ensures .done (y .if1 .taken))
+    (carries (q .request-of .result) _ _ _ _ _ _ (q .request-of .ensures)
+    (⊎-elim
+    (λ w. rw (w .4, w .5) (flows-part _ _ _ _ _ _ (sym (j .before .changes-flows .ensures) ∙ w .0 .taken) (w .2 .ensures)))
+    (λ w. rw (w .4, w .5) (groups-part _ _ _ _ _ _ (sym (j .before .changes-flows .ensures) ∙ w .0 .left) (w .2 .ensures)))
+    (j .if2 .came)))
+    (f .finish .ensures) (c .before .complete-interrupt .ensures) (t .uncredited) (c .complete .ensures))
 
 same-length-3 : tie.Need-same-length-3
 same-length-3 c = search needs
 
-returns-5 : tie.Need-returns-5
-returns-5 c = λ frame list. let f = c .before .before .before .before in rw (c .answered5 .ensures) (buffer-short _ _ frame _ list (f .before .before .before .before .before .before .before .before .before .before .before .if1 .left) (f .before .before .before .before .before .before .before .before .before .if2 .left) (sym (f .before .before .before .before .before .before .before .descriptor-inside .ensures) ∙ not-false _ (f .before .before .before .before .before .before .if3 .left)) _ (f .before .before .before .before .descriptor-at .ensures) _ (f .before .before .descriptor .ensures) _ (f .fetch .ensures) (search needs))
-
-complete-requires : tie.Need-complete-requires
-complete-requires c κs = let f = c .before .before .before .before .before in (rw (f .before .before .before .before .descriptor-at .ensures) (is-inside _ _ (sym (f .before .before .before .before .before .before .before .descriptor-inside .ensures) ∙ not-false _ (f .before .before .before .before .before .before .if3 .left))), f .fetch .ensures .fits, search needs, f .before .before .before .before .before .before .before .before .before .if2 .left)
-
-same-length-4 : tie.Need-same-length-4
-same-length-4 c = search needs
-
-same-length-5 : tie.Need-same-length-5
-same-length-5 c = search needs
-
-returns-6 : tie.Need-returns-6
-returns-6 c = λ frame list. let f = c .before .before .before .before .before .before .before .before .before .before in processed _ _ frame _ list (f .before .before .before .before .before .before .before .before .before .before .before .if1 .left) (f .before .before .before .before .before .before .before .before .before .if2 .left) (sym (f .before .before .before .before .before .before .before .descriptor-inside .ensures) ∙ not-false _ (f .before .before .before .before .before .before .if3 .left)) _ (f .before .before .before .before .descriptor-at .ensures) _ (f .before .before .descriptor .ensures) _ (f .fetch .ensures) _ _ _ (search needs) (c .before .before .before .before .complete .ensures)
+returns-2 : tie.Need-returns-2
+unfolding quiet
+returns-2 c = λ frame list. c .before .before .take .ensures .refused (c .if1 .left) _ frame _ list refl refl
 
 pub process-spec : {M : Type 1} → statement M
 process-spec =
     tie.close
     (tie.spec
-    answered-requires
-    returns
-    answered-requires-2
-    returns-2
-    descriptor-inside-requires
-    answered-requires-3
-    same-length
-    returns-3
-    descriptor-at-requires
-    descriptor-requires
-    fetch-requires
-    answered-requires-4
-    same-length-2
-    returns-4
-    sub-if5
-    answered-requires-5
-    same-length-3
-    returns-5
+    take-requires
+    request-of-requires
+    changes-flows-requires
+    on-flows-requires
+    on-groups-requires
+    finish-requires
+    add-length
+    complete-interrupt-requires
     complete-requires
-    same-length-4
-    same-length-5
-    returns-6)
+    same-length
+    same-length-2
+    returns
+    same-length-3
+    returns-2)

@@ -13,16 +13,16 @@ use Rattle.tables.proofs.flows.flow_add.Statement.{statement}
 use Rattle.tables.proofs.flows.flow_add.Tie as tie
 
 abbrev Inv-loop : tie.InvT-loop
-Inv-loop e next n key at₀ held₀ at held = Searching cookieOf 256 key n (next .count) (next .entries) at held
+Inv-loop e entries count n key at₀ held₀ at held = Searching cookieOf 256 key n count entries at held
 
 abbrev μ-loop : tie.MeasureT-loop
-μ-loop e next n key at₀ held₀ at held = n - at
+μ-loop e entries count n key at₀ held₀ at held = n - at
 
 abbrev Inv-loop2 : tie.InvT-loop2
-Inv-loop2 e next₀ n key at held status i₀ next i = Shifted 256 at n n i (next₀ .entries) (next .entries)
+Inv-loop2 e entries₀ count n key at held status i₀ entries i = Shifted 256 at n n i entries₀ entries
 
 abbrev μ-loop2 : tie.MeasureT-loop2
-μ-loop2 e next₀ n key at held status i₀ next i = i
+μ-loop2 e entries₀ count n key at held status i₀ entries i = i
 
 least-requires : tie.Need-least-requires Inv-loop μ-loop Inv-loop2 μ-loop2
 least-requires c κs = search needs
@@ -33,8 +33,8 @@ loop-holds c = begin cookieOf (search (needs, length-mapped)) (c .least .ensures
 mul-f : tie.Need-mul-f Inv-loop μ-loop Inv-loop2 μ-loop2
 mul-f c = search needs
 
-element-copy-out-f : tie.Need-element-copy-out-f Inv-loop μ-loop Inv-loop2 μ-loop2
-element-copy-out-f c = search needs
+array-copy-out-f : tie.Need-array-copy-out-f Inv-loop μ-loop Inv-loop2 μ-loop2
+array-copy-out-f c = search needs
 
 add-at : tie.Need-add-at Inv-loop μ-loop Inv-loop2 μ-loop2
 add-at c = search needs
@@ -47,7 +47,7 @@ loop-again c = pass cookieOf (c .before .before .before .before .loop .inv) _ (c
 
 -- the key's place, and whether it stands there
 found : (c : tie.Left-loop Inv-loop μ-loop Inv-loop2 μ-loop2)
-    → Sought cookieOf 256 (c .before .before .before .args .e .cookie) (c .before .before .least .result) (liveFlows (c .before .before .before .args .t)) (c .before .loop .at) (c .loop-test .held)
+    → Sought cookieOf 256 (c .before .before .before .before .args .e .cookie) (c .before .before .least .result) (liveFlows (c .before .before .before .before .args .t)) (c .before .loop .at) (c .loop-test .held)
 unfolding liveFlows
 found c =
     let s = c .before .loop .inv in
@@ -64,14 +64,14 @@ sub-j c = search needs
 mul-f-2 : tie.Need-mul-f-2 Inv-loop μ-loop Inv-loop2 μ-loop2
 mul-f-2 c = search needs
 
-element-copy-out-f-2 : tie.Need-element-copy-out-f-2 Inv-loop μ-loop Inv-loop2 μ-loop2
-element-copy-out-f-2 c = search needs
+array-copy-out-f-2 : tie.Need-array-copy-out-f-2 Inv-loop μ-loop Inv-loop2 μ-loop2
+array-copy-out-f-2 c = search needs
 
-mul-f-3 : tie.Need-mul-f-3 Inv-loop μ-loop Inv-loop2 μ-loop2
-mul-f-3 c = search needs
+mul-entries : tie.Need-mul-entries Inv-loop μ-loop Inv-loop2 μ-loop2
+mul-entries c = search needs
 
-element-set-from-f : tie.Need-element-set-from-f Inv-loop μ-loop Inv-loop2 μ-loop2
-element-set-from-f c = search needs
+array-set-from-entries : tie.Need-array-set-from-entries Inv-loop μ-loop Inv-loop2 μ-loop2
+array-set-from-entries c = search needs
 
 loop2-less : tie.Need-loop2-less Inv-loop μ-loop Inv-loop2 μ-loop2
 loop2-less c = search needs
@@ -79,14 +79,14 @@ loop2-less c = search needs
 loop2-again : tie.Need-loop2-again Inv-loop μ-loop Inv-loop2 μ-loop2
 loop2-again c = shift-down _ (c .before .before .loop2 .inv) (c .before .loop2-test .taken)
 
-mul-e : tie.Need-mul-e Inv-loop μ-loop Inv-loop2 μ-loop2
-mul-e c = search needs
+mul-entries-2 : tie.Need-mul-entries-2 Inv-loop μ-loop Inv-loop2 μ-loop2
+mul-entries-2 c = search needs
 
-element-set-from-e : tie.Need-element-set-from-e Inv-loop μ-loop Inv-loop2 μ-loop2
-element-set-from-e c = search needs
+array-set-from-entries-2 : tie.Need-array-set-from-entries-2 Inv-loop μ-loop Inv-loop2 μ-loop2
+array-set-from-entries-2 c = search needs
 
-add-next : tie.Need-add-next Inv-loop μ-loop Inv-loop2 μ-loop2
-add-next c = search needs
+add-count : tie.Need-add-count Inv-loop μ-loop Inv-loop2 μ-loop2
+add-count c = search needs
 
 returns : tie.Need-returns Inv-loop μ-loop Inv-loop2 μ-loop2
 returns c = add-held liveFlows (found (c .before)) (c .if2 .taken)
@@ -95,7 +95,7 @@ returns-2 : tie.Need-returns-2 Inv-loop μ-loop Inv-loop2 μ-loop2
 unfolding liveFlows
 returns-2 c =
     let l = c .before .before .before .before in
-    let a = l .before .before .before .args in
+    let a = l .before .before .before .before .args in
     add-done liveFlows (found l) (c .before .before .before .if2 .left) (c .before .before .if3 .taken)
     (inserted cookieOf (a .t .count) (a .e) (found l) (c .before .loop2 .inv) (c .loop2-test .left))
 
@@ -113,21 +113,21 @@ flow-add-spec =
     least-requires
     loop-holds
     mul-f
-    element-copy-out-f
+    array-copy-out-f
     add-at
     loop-less
     loop-again
     loop2-holds
     sub-j
     mul-f-2
-    element-copy-out-f-2
-    mul-f-3
-    element-set-from-f
+    array-copy-out-f-2
+    mul-entries
+    array-set-from-entries
     loop2-less
     loop2-again
-    mul-e
-    element-set-from-e
-    add-next
+    mul-entries-2
+    array-set-from-entries-2
+    add-count
     returns
     returns-2
     returns-3)

@@ -14,16 +14,16 @@ use Rattle.tables.proofs.flows.flow_del.Statement.{statement}
 use Rattle.tables.proofs.flows.flow_del.Tie as tie
 
 abbrev Inv-loop : tie.InvT-loop
-Inv-loop cookie next n at₀ held₀ at held = Searching cookieOf 256 cookie n (next .count) (next .entries) at held
+Inv-loop cookie entries count n at₀ held₀ at held = Searching cookieOf 256 cookie n count entries at held
 
 abbrev μ-loop : tie.MeasureT-loop
-μ-loop cookie next n at₀ held₀ at held = n - at
+μ-loop cookie entries count n at₀ held₀ at held = n - at
 
 abbrev Inv-loop2 : tie.InvT-loop2
-Inv-loop2 cookie next₀ n at held last i₀ next i = Shifted 256 at last at i (next₀ .entries) (next .entries)
+Inv-loop2 cookie entries₀ count n at held last i₀ entries i = Shifted 256 at last at i entries₀ entries
 
 abbrev μ-loop2 : tie.MeasureT-loop2
-μ-loop2 cookie next₀ n at held last i₀ next i = last - i
+μ-loop2 cookie entries₀ count n at held last i₀ entries i = last - i
 
 least-requires : tie.Need-least-requires Inv-loop μ-loop Inv-loop2 μ-loop2
 least-requires c κs = search needs
@@ -34,8 +34,8 @@ loop-holds c = begin cookieOf (search (needs, length-mapped)) (c .least .ensures
 mul-f : tie.Need-mul-f Inv-loop μ-loop Inv-loop2 μ-loop2
 mul-f c = search needs
 
-element-copy-out-f : tie.Need-element-copy-out-f Inv-loop μ-loop Inv-loop2 μ-loop2
-element-copy-out-f c = search needs
+array-copy-out-f : tie.Need-array-copy-out-f Inv-loop μ-loop Inv-loop2 μ-loop2
+array-copy-out-f c = search needs
 
 add-at : tie.Need-add-at Inv-loop μ-loop Inv-loop2 μ-loop2
 add-at c = search needs
@@ -48,7 +48,7 @@ loop-again c = pass cookieOf (c .before .before .before .before .loop .inv) _ (c
 
 -- the key's place, and whether it stands there
 found : (c : tie.Left-loop Inv-loop μ-loop Inv-loop2 μ-loop2)
-    → Sought cookieOf 256 (c .before .before .before .args .cookie) (c .before .before .least .result) (liveFlows (c .before .before .before .args .t)) (c .before .loop .at) (c .loop-test .held)
+    → Sought cookieOf 256 (c .before .before .before .before .args .cookie) (c .before .before .least .result) (liveFlows (c .before .before .before .before .args .t)) (c .before .loop .at) (c .loop-test .held)
 unfolding liveFlows
 found c =
     let s = c .before .loop .inv in
@@ -69,14 +69,14 @@ add-j c = search needs
 mul-f-2 : tie.Need-mul-f-2 Inv-loop μ-loop Inv-loop2 μ-loop2
 mul-f-2 c = search needs
 
-element-copy-out-f-2 : tie.Need-element-copy-out-f-2 Inv-loop μ-loop Inv-loop2 μ-loop2
-element-copy-out-f-2 c = search needs
+array-copy-out-f-2 : tie.Need-array-copy-out-f-2 Inv-loop μ-loop Inv-loop2 μ-loop2
+array-copy-out-f-2 c = search needs
 
-mul-f-3 : tie.Need-mul-f-3 Inv-loop μ-loop Inv-loop2 μ-loop2
-mul-f-3 c = search needs
+mul-entries : tie.Need-mul-entries Inv-loop μ-loop Inv-loop2 μ-loop2
+mul-entries c = search needs
 
-element-set-from-f : tie.Need-element-set-from-f Inv-loop μ-loop Inv-loop2 μ-loop2
-element-set-from-f c = search needs
+array-set-from-entries : tie.Need-array-set-from-entries Inv-loop μ-loop Inv-loop2 μ-loop2
+array-set-from-entries c = search needs
 
 loop2-less : tie.Need-loop2-less Inv-loop μ-loop Inv-loop2 μ-loop2
 loop2-less c = search needs
@@ -89,7 +89,7 @@ unfolding liveFlows
 returns c =
     let l = c .before .before .before in
     let h = c .before .before .if2 .taken in
-    held-done liveFlows (found l) h (removed cookieOf (l .before .before .before .args .t .count) (found l) h refl (c .before .loop2 .inv) (c .loop2-test .left))
+    held-done liveFlows (found l) h (removed cookieOf (l .before .before .before .before .args .t .count) (found l) h refl (c .before .loop2 .inv) (c .loop2-test .left))
 
 returns-2 : tie.Need-returns-2 Inv-loop μ-loop Inv-loop2 μ-loop2
 returns-2 c = not-held liveFlows (found (c .before)) (c .if2 .left)
@@ -105,7 +105,7 @@ flow-del-spec =
     least-requires
     loop-holds
     mul-f
-    element-copy-out-f
+    array-copy-out-f
     add-at
     loop-less
     loop-again
@@ -113,9 +113,9 @@ flow-del-spec =
     loop2-holds
     add-j
     mul-f-2
-    element-copy-out-f-2
-    mul-f-3
-    element-set-from-f
+    array-copy-out-f-2
+    mul-entries
+    array-set-from-entries
     loop2-less
     loop2-again
     returns

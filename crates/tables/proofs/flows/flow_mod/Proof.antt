@@ -12,10 +12,10 @@ use Rattle.tables.proofs.flows.flow_mod.Statement.{statement}
 use Rattle.tables.proofs.flows.flow_mod.Tie as tie
 
 abbrev Inv-loop : tie.InvT-loop
-Inv-loop e next n key at₀ held₀ at held = Searching cookieOf 256 key n (next .count) (next .entries) at held
+Inv-loop t e entries n key at₀ held₀ at held = Searching cookieOf 256 key n (t .count) entries at held
 
 abbrev μ-loop : tie.MeasureT-loop
-μ-loop e next n key at₀ held₀ at held = n - at
+μ-loop t e entries n key at₀ held₀ at held = n - at
 
 least-requires : tie.Need-least-requires Inv-loop μ-loop
 least-requires c κs = search needs
@@ -26,8 +26,8 @@ loop-holds c = begin cookieOf (search (needs, length-mapped)) (c .least .ensures
 mul-f : tie.Need-mul-f Inv-loop μ-loop
 mul-f c = search needs
 
-element-copy-out-f : tie.Need-element-copy-out-f Inv-loop μ-loop
-element-copy-out-f c = search needs
+array-copy-out-f : tie.Need-array-copy-out-f Inv-loop μ-loop
+array-copy-out-f c = search needs
 
 add-at : tie.Need-add-at Inv-loop μ-loop
 add-at c = search needs
@@ -40,22 +40,22 @@ loop-again c = pass cookieOf (c .before .before .before .before .loop .inv) _ (c
 
 -- the key's place, and whether it stands there
 found : (c : tie.Left-loop Inv-loop μ-loop)
-    → Sought cookieOf 256 (c .before .before .before .args .e .cookie) (c .before .before .least .result) (liveFlows (c .before .before .before .args .t)) (c .before .loop .at) (c .loop-test .held)
+    → Sought cookieOf 256 (c .before .before .before .before .args .e .cookie) (c .before .before .least .result) (liveFlows (c .before .before .before .before .args .t)) (c .before .loop .at) (c .loop-test .held)
 unfolding liveFlows
 found c =
     let s = c .before .loop .inv in
     ⊎-elim (λ w. end cookieOf s (w .0 .left) (w .1)) (λ w. stop cookieOf s _ (w .0 .taken) (w .3 .taken) (w .5)) (c .loop-test .came)
 
-mul-e : tie.Need-mul-e Inv-loop μ-loop
-mul-e c = omega (arith, held-lt (found (c .before)) (c .if2 .taken))
+mul-entries : tie.Need-mul-entries Inv-loop μ-loop
+mul-entries c = omega (arith, held-lt (found (c .before)) (c .if2 .taken))
 
-element-set-from-e : tie.Need-element-set-from-e Inv-loop μ-loop
-element-set-from-e c = omega (arith, held-lt (found (c .before)) (c .if2 .taken))
+array-set-from-entries : tie.Need-array-set-from-entries Inv-loop μ-loop
+array-set-from-entries c = omega (arith, held-lt (found (c .before)) (c .if2 .taken))
 
 returns : tie.Need-returns Inv-loop μ-loop
 unfolding liveFlows
 returns c =
-    let a = c .before .before .before .before .args in
+    let a = c .before .before .before .before .before .args in
     held-done liveFlows (found (c .before)) (c .if2 .taken) (replaced cookieOf (a .t .count) (a .t .entries) (a .e) (found (c .before)) (c .if2 .taken))
 
 returns-2 : tie.Need-returns-2 Inv-loop μ-loop
@@ -70,11 +70,11 @@ flow-mod-spec =
     least-requires
     loop-holds
     mul-f
-    element-copy-out-f
+    array-copy-out-f
     add-at
     loop-less
     loop-again
-    mul-e
-    element-set-from-e
+    mul-entries
+    array-set-from-entries
     returns
     returns-2)

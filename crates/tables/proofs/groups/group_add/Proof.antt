@@ -13,16 +13,16 @@ use Rattle.tables.proofs.groups.group_add.Statement.{statement}
 use Rattle.tables.proofs.groups.group_add.Tie as tie
 
 abbrev Inv-loop : tie.InvT-loop
-Inv-loop e next n key at₀ held₀ at held = Searching idOf 128 key n (next .count) (next .entries) at held
+Inv-loop e entries count n key at₀ held₀ at held = Searching idOf 128 key n count entries at held
 
 abbrev μ-loop : tie.MeasureT-loop
-μ-loop e next n key at₀ held₀ at held = n - at
+μ-loop e entries count n key at₀ held₀ at held = n - at
 
 abbrev Inv-loop2 : tie.InvT-loop2
-Inv-loop2 e next₀ n key at held status i₀ next i = Shifted 128 at n n i (next₀ .entries) (next .entries)
+Inv-loop2 e entries₀ count n key at held status i₀ entries i = Shifted 128 at n n i entries₀ entries
 
 abbrev μ-loop2 : tie.MeasureT-loop2
-μ-loop2 e next₀ n key at held status i₀ next i = i
+μ-loop2 e entries₀ count n key at held status i₀ entries i = i
 
 least-requires : tie.Need-least-requires Inv-loop μ-loop Inv-loop2 μ-loop2
 least-requires c κs = search needs
@@ -33,8 +33,8 @@ loop-holds c = begin idOf (search (needs, length-mapped)) (c .least .ensures)
 mul-g : tie.Need-mul-g Inv-loop μ-loop Inv-loop2 μ-loop2
 mul-g c = search needs
 
-element-copy-out-g : tie.Need-element-copy-out-g Inv-loop μ-loop Inv-loop2 μ-loop2
-element-copy-out-g c = search needs
+array-copy-out-g : tie.Need-array-copy-out-g Inv-loop μ-loop Inv-loop2 μ-loop2
+array-copy-out-g c = search needs
 
 add-at : tie.Need-add-at Inv-loop μ-loop Inv-loop2 μ-loop2
 add-at c = search needs
@@ -47,7 +47,7 @@ loop-again c = pass idOf (c .before .before .before .before .loop .inv) _ (c .be
 
 -- the key's place, and whether it stands there
 found : (c : tie.Left-loop Inv-loop μ-loop Inv-loop2 μ-loop2)
-    → Sought idOf 128 (c .before .before .before .args .e .id) (c .before .before .least .result) (liveGroups (c .before .before .before .args .t)) (c .before .loop .at) (c .loop-test .held)
+    → Sought idOf 128 (c .before .before .before .before .args .e .id) (c .before .before .least .result) (liveGroups (c .before .before .before .before .args .t)) (c .before .loop .at) (c .loop-test .held)
 unfolding liveGroups
 found c =
     let s = c .before .loop .inv in
@@ -64,14 +64,14 @@ sub-j c = search needs
 mul-g-2 : tie.Need-mul-g-2 Inv-loop μ-loop Inv-loop2 μ-loop2
 mul-g-2 c = search needs
 
-element-copy-out-g-2 : tie.Need-element-copy-out-g-2 Inv-loop μ-loop Inv-loop2 μ-loop2
-element-copy-out-g-2 c = search needs
+array-copy-out-g-2 : tie.Need-array-copy-out-g-2 Inv-loop μ-loop Inv-loop2 μ-loop2
+array-copy-out-g-2 c = search needs
 
-mul-g-3 : tie.Need-mul-g-3 Inv-loop μ-loop Inv-loop2 μ-loop2
-mul-g-3 c = search needs
+mul-entries : tie.Need-mul-entries Inv-loop μ-loop Inv-loop2 μ-loop2
+mul-entries c = search needs
 
-element-set-from-g : tie.Need-element-set-from-g Inv-loop μ-loop Inv-loop2 μ-loop2
-element-set-from-g c = search needs
+array-set-from-entries : tie.Need-array-set-from-entries Inv-loop μ-loop Inv-loop2 μ-loop2
+array-set-from-entries c = search needs
 
 loop2-less : tie.Need-loop2-less Inv-loop μ-loop Inv-loop2 μ-loop2
 loop2-less c = search needs
@@ -79,14 +79,14 @@ loop2-less c = search needs
 loop2-again : tie.Need-loop2-again Inv-loop μ-loop Inv-loop2 μ-loop2
 loop2-again c = shift-down _ (c .before .before .loop2 .inv) (c .before .loop2-test .taken)
 
-mul-e : tie.Need-mul-e Inv-loop μ-loop Inv-loop2 μ-loop2
-mul-e c = search needs
+mul-entries-2 : tie.Need-mul-entries-2 Inv-loop μ-loop Inv-loop2 μ-loop2
+mul-entries-2 c = search needs
 
-element-set-from-e : tie.Need-element-set-from-e Inv-loop μ-loop Inv-loop2 μ-loop2
-element-set-from-e c = search needs
+array-set-from-entries-2 : tie.Need-array-set-from-entries-2 Inv-loop μ-loop Inv-loop2 μ-loop2
+array-set-from-entries-2 c = search needs
 
-add-next : tie.Need-add-next Inv-loop μ-loop Inv-loop2 μ-loop2
-add-next c = search needs
+add-count : tie.Need-add-count Inv-loop μ-loop Inv-loop2 μ-loop2
+add-count c = search needs
 
 returns : tie.Need-returns Inv-loop μ-loop Inv-loop2 μ-loop2
 returns c = add-held liveGroups (found (c .before)) (c .if2 .taken)
@@ -95,7 +95,7 @@ returns-2 : tie.Need-returns-2 Inv-loop μ-loop Inv-loop2 μ-loop2
 unfolding liveGroups
 returns-2 c =
     let l = c .before .before .before .before in
-    let a = l .before .before .before .args in
+    let a = l .before .before .before .before .args in
     add-done liveGroups (found l) (c .before .before .before .if2 .left) (c .before .before .if3 .taken)
     (inserted idOf (a .t .count) (a .e) (found l) (c .before .loop2 .inv) (c .loop2-test .left))
 
@@ -113,21 +113,21 @@ group-add-spec =
     least-requires
     loop-holds
     mul-g
-    element-copy-out-g
+    array-copy-out-g
     add-at
     loop-less
     loop-again
     loop2-holds
     sub-j
     mul-g-2
-    element-copy-out-g-2
-    mul-g-3
-    element-set-from-g
+    array-copy-out-g-2
+    mul-entries
+    array-set-from-entries
     loop2-less
     loop2-again
-    mul-e
-    element-set-from-e
-    add-next
+    mul-entries-2
+    array-set-from-entries-2
+    add-count
     returns
     returns-2
     returns-3)

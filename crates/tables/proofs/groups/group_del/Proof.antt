@@ -14,16 +14,16 @@ use Rattle.tables.proofs.groups.group_del.Statement.{statement}
 use Rattle.tables.proofs.groups.group_del.Tie as tie
 
 abbrev Inv-loop : tie.InvT-loop
-Inv-loop id next n at₀ held₀ at held = Searching idOf 128 id n (next .count) (next .entries) at held
+Inv-loop id entries count n at₀ held₀ at held = Searching idOf 128 id n count entries at held
 
 abbrev μ-loop : tie.MeasureT-loop
-μ-loop id next n at₀ held₀ at held = n - at
+μ-loop id entries count n at₀ held₀ at held = n - at
 
 abbrev Inv-loop2 : tie.InvT-loop2
-Inv-loop2 id next₀ n at held last i₀ next i = Shifted 128 at last at i (next₀ .entries) (next .entries)
+Inv-loop2 id entries₀ count n at held last i₀ entries i = Shifted 128 at last at i entries₀ entries
 
 abbrev μ-loop2 : tie.MeasureT-loop2
-μ-loop2 id next₀ n at held last i₀ next i = last - i
+μ-loop2 id entries₀ count n at held last i₀ entries i = last - i
 
 least-requires : tie.Need-least-requires Inv-loop μ-loop Inv-loop2 μ-loop2
 least-requires c κs = search needs
@@ -34,8 +34,8 @@ loop-holds c = begin idOf (search (needs, length-mapped)) (c .least .ensures)
 mul-g : tie.Need-mul-g Inv-loop μ-loop Inv-loop2 μ-loop2
 mul-g c = search needs
 
-element-copy-out-g : tie.Need-element-copy-out-g Inv-loop μ-loop Inv-loop2 μ-loop2
-element-copy-out-g c = search needs
+array-copy-out-g : tie.Need-array-copy-out-g Inv-loop μ-loop Inv-loop2 μ-loop2
+array-copy-out-g c = search needs
 
 add-at : tie.Need-add-at Inv-loop μ-loop Inv-loop2 μ-loop2
 add-at c = search needs
@@ -48,7 +48,7 @@ loop-again c = pass idOf (c .before .before .before .before .loop .inv) _ (c .be
 
 -- the key's place, and whether it stands there
 found : (c : tie.Left-loop Inv-loop μ-loop Inv-loop2 μ-loop2)
-    → Sought idOf 128 (c .before .before .before .args .id) (c .before .before .least .result) (liveGroups (c .before .before .before .args .t)) (c .before .loop .at) (c .loop-test .held)
+    → Sought idOf 128 (c .before .before .before .before .args .id) (c .before .before .least .result) (liveGroups (c .before .before .before .before .args .t)) (c .before .loop .at) (c .loop-test .held)
 unfolding liveGroups
 found c =
     let s = c .before .loop .inv in
@@ -69,14 +69,14 @@ add-j c = search needs
 mul-g-2 : tie.Need-mul-g-2 Inv-loop μ-loop Inv-loop2 μ-loop2
 mul-g-2 c = search needs
 
-element-copy-out-g-2 : tie.Need-element-copy-out-g-2 Inv-loop μ-loop Inv-loop2 μ-loop2
-element-copy-out-g-2 c = search needs
+array-copy-out-g-2 : tie.Need-array-copy-out-g-2 Inv-loop μ-loop Inv-loop2 μ-loop2
+array-copy-out-g-2 c = search needs
 
-mul-g-3 : tie.Need-mul-g-3 Inv-loop μ-loop Inv-loop2 μ-loop2
-mul-g-3 c = search needs
+mul-entries : tie.Need-mul-entries Inv-loop μ-loop Inv-loop2 μ-loop2
+mul-entries c = search needs
 
-element-set-from-g : tie.Need-element-set-from-g Inv-loop μ-loop Inv-loop2 μ-loop2
-element-set-from-g c = search needs
+array-set-from-entries : tie.Need-array-set-from-entries Inv-loop μ-loop Inv-loop2 μ-loop2
+array-set-from-entries c = search needs
 
 loop2-less : tie.Need-loop2-less Inv-loop μ-loop Inv-loop2 μ-loop2
 loop2-less c = search needs
@@ -89,7 +89,7 @@ unfolding liveGroups
 returns c =
     let l = c .before .before .before in
     let h = c .before .before .if2 .taken in
-    held-done liveGroups (found l) h (removed idOf (l .before .before .before .args .t .count) (found l) h refl (c .before .loop2 .inv) (c .loop2-test .left))
+    held-done liveGroups (found l) h (removed idOf (l .before .before .before .before .args .t .count) (found l) h refl (c .before .loop2 .inv) (c .loop2-test .left))
 
 returns-2 : tie.Need-returns-2 Inv-loop μ-loop Inv-loop2 μ-loop2
 returns-2 c = not-held liveGroups (found (c .before)) (c .if2 .left)
@@ -105,7 +105,7 @@ group-del-spec =
     least-requires
     loop-holds
     mul-g
-    element-copy-out-g
+    array-copy-out-g
     add-at
     loop-less
     loop-again
@@ -113,9 +113,9 @@ group-del-spec =
     loop2-holds
     add-j
     mul-g-2
-    element-copy-out-g-2
-    mul-g-3
-    element-set-from-g
+    array-copy-out-g-2
+    mul-entries
+    array-set-from-entries
     loop2-less
     loop2-again
     returns

@@ -12,10 +12,10 @@ use Rattle.tables.proofs.groups.group_mod.Statement.{statement}
 use Rattle.tables.proofs.groups.group_mod.Tie as tie
 
 abbrev Inv-loop : tie.InvT-loop
-Inv-loop e next n key at₀ held₀ at held = Searching idOf 128 key n (next .count) (next .entries) at held
+Inv-loop t e entries n key at₀ held₀ at held = Searching idOf 128 key n (t .count) entries at held
 
 abbrev μ-loop : tie.MeasureT-loop
-μ-loop e next n key at₀ held₀ at held = n - at
+μ-loop t e entries n key at₀ held₀ at held = n - at
 
 least-requires : tie.Need-least-requires Inv-loop μ-loop
 least-requires c κs = search needs
@@ -26,8 +26,8 @@ loop-holds c = begin idOf (search (needs, length-mapped)) (c .least .ensures)
 mul-g : tie.Need-mul-g Inv-loop μ-loop
 mul-g c = search needs
 
-element-copy-out-g : tie.Need-element-copy-out-g Inv-loop μ-loop
-element-copy-out-g c = search needs
+array-copy-out-g : tie.Need-array-copy-out-g Inv-loop μ-loop
+array-copy-out-g c = search needs
 
 add-at : tie.Need-add-at Inv-loop μ-loop
 add-at c = search needs
@@ -40,22 +40,22 @@ loop-again c = pass idOf (c .before .before .before .before .loop .inv) _ (c .be
 
 -- the key's place, and whether it stands there
 found : (c : tie.Left-loop Inv-loop μ-loop)
-    → Sought idOf 128 (c .before .before .before .args .e .id) (c .before .before .least .result) (liveGroups (c .before .before .before .args .t)) (c .before .loop .at) (c .loop-test .held)
+    → Sought idOf 128 (c .before .before .before .before .args .e .id) (c .before .before .least .result) (liveGroups (c .before .before .before .before .args .t)) (c .before .loop .at) (c .loop-test .held)
 unfolding liveGroups
 found c =
     let s = c .before .loop .inv in
     ⊎-elim (λ w. end idOf s (w .0 .left) (w .1)) (λ w. stop idOf s _ (w .0 .taken) (w .3 .taken) (w .5)) (c .loop-test .came)
 
-mul-e : tie.Need-mul-e Inv-loop μ-loop
-mul-e c = omega (arith, held-lt (found (c .before)) (c .if2 .taken))
+mul-entries : tie.Need-mul-entries Inv-loop μ-loop
+mul-entries c = omega (arith, held-lt (found (c .before)) (c .if2 .taken))
 
-element-set-from-e : tie.Need-element-set-from-e Inv-loop μ-loop
-element-set-from-e c = omega (arith, held-lt (found (c .before)) (c .if2 .taken))
+array-set-from-entries : tie.Need-array-set-from-entries Inv-loop μ-loop
+array-set-from-entries c = omega (arith, held-lt (found (c .before)) (c .if2 .taken))
 
 returns : tie.Need-returns Inv-loop μ-loop
 unfolding liveGroups
 returns c =
-    let a = c .before .before .before .before .args in
+    let a = c .before .before .before .before .before .args in
     held-done liveGroups (found (c .before)) (c .if2 .taken) (replaced idOf (a .t .count) (a .t .entries) (a .e) (found (c .before)) (c .if2 .taken))
 
 returns-2 : tie.Need-returns-2 Inv-loop μ-loop
@@ -70,11 +70,11 @@ group-mod-spec =
     least-requires
     loop-holds
     mul-g
-    element-copy-out-g
+    array-copy-out-g
     add-at
     loop-less
     loop-again
-    mul-e
-    element-set-from-e
+    mul-entries
+    array-set-from-entries
     returns
     returns-2)
