@@ -2,4 +2,3 @@ pub mod Tests
 pub mod Reach
 pub mod Outcomes
 pub mod Bitmaps
-pub mod Sizes

@@ -10,18 +10,9 @@ use Rattle.rules.specs.declared.Answer.the-variants.{PortNotAllowed, Done}
 use Rattle.rules.specs.declared.Ring.{Ring}
 use Rattle.rules.specs.declared.Registers.{Registers}
 use Rattle.registers.specs.declared.Written.{Written}
-use Rattle.registers.specs.declared.ring.RingWritten.{RingWritten}
-use Rattle.registers.specs.Outcomes.{Gives, Changes, RingGives, refusedRing, acceptedRing, done, inRing}
-
--- a write to a ring
-module _ {before after : Ring} {w : RingWritten} {raises : Bool} {n : ℕ} where
-  pub ring-refused : w ≡ refusedRing before → n ≡ 2 → RingGives w n after raises before
-  unfolding number
-  ring-refused e f = rw (e, f) (record { answer = refl; ring = refl; interrupt = refl })
-
-  pub ring-accepted : {next : Ring} {i : Bool} → w ≡ acceptedRing next i → n ≡ 0 → next ≡ after → i ≡ raises → RingGives w n after raises before
-  unfolding number
-  ring-accepted e f a b = rw (e, f) (record { answer = refl; ring = a; interrupt = b })
+use Rattle.ring.specs.declared.RingWritten.{RingWritten}
+use Rattle.ring.specs.Outcomes.{RingGives}
+use Rattle.registers.specs.Outcomes.{Gives, Changes, done, inRing}
 
 -- a write to registers that nothing refuses
 pub accepted : (d : Registers) {next after : Registers} {w : Written} → w ≡ done next → next ≡ after → Gives w (unlessRefused d (sets 0 after))

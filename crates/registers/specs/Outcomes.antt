@@ -1,19 +1,18 @@
 -- What the calls of this crate give, against the rules: one record a call, whose fields are the parts of the outcome.
 use Prim.Native.Nat.{ℕ}
-use mathlib.Core.Bool.{Bool, false}
+use mathlib.Core.Bool.{false}
 use mathlib.Core.Path.{_≡_}
 use lib.Dec.{eqb}
 use Rattle.rules.specs.Choose.{choose}
 use Rattle.rules.specs.Answers.{number}
 use Rattle.rules.specs.Registers.{readRefusal, read, withRing}
 use Rattle.rules.specs.Registers as rule
-use Rattle.rules.specs.declared.Answer.the-variants.{Done, ValueNotAllowed}
-use Rattle.rules.specs.declared.Ring.{Ring}
+use Rattle.rules.specs.declared.Answer.the-variants.{Done}
 use Rattle.rules.specs.declared.Registers.{Registers}
 use Rattle.registers.specs.declared.Reading.{Reading}
 use Rattle.registers.specs.declared.Written.{Written}
 use Rattle.registers.specs.declared.Changed.{Changed}
-use Rattle.registers.specs.declared.ring.RingWritten.{RingWritten}
+use Rattle.ring.specs.declared.RingWritten.{RingWritten}
 
 -- a read
 pub record Reads (r : Reading) (d : Registers) (offset width : ℕ) : Type 0 where
@@ -31,19 +30,6 @@ pub record Gives (w : Written) (of : rule.Written) : Type 0 where
 pub record Changes (r : Changed) (refusal : ℕ) (after before : Registers) : Type 0 where
   pub answer : number (r .answer) ≡ refusal
   pub registers : r .registers ≡ choose (eqb refusal 0) after before
-
--- a write to a ring: the same, and whether it raises vector 0 where it is not refused
-pub record RingGives (w : RingWritten) (refusal : ℕ) (after : Ring) (raises : Bool) (before : Ring) : Type 0 where
-  pub answer : number (w .answer) ≡ refusal
-  pub ring : w .ring ≡ choose (eqb refusal 0) after before
-  pub interrupt : w .interrupt ≡ choose (eqb refusal 0) raises false
-
--- a ring that keeps what it has, and one that takes what was written
-abbrev pub refusedRing : Ring → RingWritten
-refusedRing r = record { answer = ValueNotAllowed; ring = r; interrupt = false }
-
-abbrev pub acceptedRing : Ring → Bool → RingWritten
-acceptedRing r interrupt = record { answer = Done; ring = r; interrupt = interrupt }
 
 -- registers that take what was written, and those whose ring did
 abbrev pub done : Registers → Written

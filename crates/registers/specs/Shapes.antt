@@ -1,12 +1,10 @@
 -- Parts of the rules that functions of this crate compute.
-use Prim.Native.Nat.{ℕ, _+_, _-_, _%_, _<_, _^_}
+use Prim.Native.Nat.{ℕ, _+_, _%_, _<_, _^_}
 use mathlib.Core.Bool.{Bool, true, false, _&&_}
 use mathlib.Core.Path.{_≡_}
-use lib.Dec.{ltb, leb, eqb}
-use Rattle.rules.specs.Ring.{outstanding, advance}
+use lib.Dec.{leb, eqb}
 use Rattle.rules.specs.Registers.{isWide, joined}
 use Rattle.rules.specs.declared.Registers.{Registers}
-use Rattle.rules.specs.declared.Ring.{Ring}
 use Rattle.rules.specs.declared.Access.{Access}
 use Rattle.rules.specs.declared.Access.the-variants.{NotAllowed, Reserved, Whole, Lower, Upper}
 
@@ -16,10 +14,6 @@ isNarrow offset width = eqb width 4 && eqb (offset % 4) 0 && leb (offset + 4) 0x
 
 unfoldable pub isEight : ℕ → ℕ → Bool
 isEight offset width = eqb width 8 && eqb (offset % 8) 0 && leb (offset + 8) 0x2000
-
--- what HEAD may be set to
-unfoldable pub headAllowed : Ring → ℕ → Bool
-headAllowed r new = ltb new (r .size) && leb (outstanding r + advance r new) (r .size - 1)
 
 -- the number fits what it is written to: 32 bits for a register of 4 bytes and for a half of one of 8
 unfoldable pub Bounded : Access → ℕ → Type 0

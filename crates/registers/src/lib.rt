@@ -2,7 +2,6 @@
 // gives exactly what the rules say. What a write does to the tables it only reports.
 mod access;
 mod ports;
-mod ring;
 
 pub use ports::is_up;
 pub use ports::port_allowed;
