@@ -1,8 +1,9 @@
-/* The Rocker switch for a host in C. The functions are those of the proved crate `capi`: link libcapi.a, which `rt staticlib capi`
- * writes to target/staticlib/. docs/C-INTERFACE.md has the table of answers and an account of what is proved.
+/* The Rocker switch for a host in C. The functions are those of the proved crates `capi` and `capi_direct`: link libcapi.a and
+ * libcapi_direct.a, which `rt staticlib NAME` writes to target/staticlib/. docs/C-INTERFACE.md has the table of answers and an account of
+ * what is proved.
  *
- * A device is a struct that the host holds. Each call answers with a number (rocker_register_write puts a bit beside it): 0 is done, and
- * any other means that the device, guest memory, the buffer and the list are as they were.
+ * A device is a struct that the host holds. Each call answers with a number (two functions put a bit beside it): 0 is done, and any
+ * other means that the device, guest memory, the buffer and the list are as they were.
  *
  * The proofs are about what the parameters' types promise, and a caller in C is checked by nothing. It sees to this, at each call:
  *   - No pointer is null and each is aligned for its type, also where the length beside it is 0.
@@ -51,6 +52,8 @@ enum rocker_kind {
     ROCKER_HEADER = 5   /* uses the buffer */
 };
 
+/* ---- libcapi.a: a device made, and any call by numbers */
+
 /* The size of a device in the archive. A host compares it once with sizeof(struct rocker), so that header and archive agree. */
 uint64_t rocker_size(void);
 
@@ -66,6 +69,8 @@ uint32_t rocker_call(struct rocker *d, uint64_t kind, uint64_t a, uint64_t b, ui
                      const uint8_t *frame, size_t frame_length, uint8_t *buffer, size_t buffer_length, uint16_t *list,
                      size_t list_length, uint64_t *out, size_t out_length);
 
+/* ---- libcapi_direct.a: the calls that a host makes often */
+
 /* A register read. The value goes to *value, 0 if it is refused.
  * d and value: aligned to 8, value not in the device. */
 uint32_t rocker_read(const struct rocker *d, uint64_t offset, uint64_t width, uint64_t *value);
@@ -73,6 +78,13 @@ uint32_t rocker_read(const struct rocker *d, uint64_t offset, uint64_t width, ui
 /* A register write. The result is its answer, and 256 more if vector 0 was raised; rocker_write takes the two apart.
  * d: aligned to 8. */
 uint32_t rocker_register_write(struct rocker *d, uint64_t offset, uint64_t width, uint64_t value);
+
+/* Process the slot at TAIL: two bytes of its descriptor are written to guest memory, and the journal's record to the start of the buffer.
+ * The result is its answer, and 256 more if vector 0 was raised. COMP_ERR as it was written goes to *completed, the length of the record to
+ * *bytes; both are 0 if the call is refused. rocker_process takes these apart.
+ * d, completed and bytes: aligned to 8; no two of the places overlap. */
+uint32_t rocker_process_slot(struct rocker *d, uint8_t *memory, size_t memory_length, uint8_t *buffer, size_t buffer_length,
+                             uint64_t *completed, uint64_t *bytes);
 
 /* A frame in at a port. Its outputs go to the start of the list, and how many they are to *outputs, 0 if it is refused.
  * d and outputs: aligned to 8; list: to 2, and ROCKER_LIST long. Neither the list nor outputs is in the device, or in the frame. */
@@ -107,11 +119,16 @@ static inline uint32_t rocker_link(struct rocker *d, uint64_t port, uint64_t up)
     return rocker_plain_call(d, ROCKER_LINK, port, up, memory, 0, buffer, 0, &o);
 }
 
-/* Process the slot at TAIL. Two bytes of the descriptor are written to guest memory, and the journal's record to the buffer. */
+/* Process the slot at TAIL; of the outcome, value and outputs are 0. */
 static inline uint32_t rocker_process(struct rocker *d, uint8_t *memory, size_t memory_length, uint8_t *buffer, size_t buffer_length,
                                       struct rocker_outcome *o)
 {
-    return rocker_plain_call(d, ROCKER_PROCESS, 0, 0, memory, memory_length, buffer, buffer_length, o);
+    uint32_t r;
+    o->value = 0;
+    o->outputs = 0;
+    r = rocker_process_slot(d, memory, memory_length, buffer, buffer_length, &o->completed, &o->bytes);
+    o->raised = r / 256;
+    return r % 256;
 }
 
 /* The journal's header, to the start of the buffer. */

@@ -20,7 +20,7 @@ MODEL = str(ROOT / "tests/model/target/release/model")
 CONSOLE = str(ROOT / "target/bin/console")
 REPLAY = str(ROOT / "target/bin/replay")
 INTERFACE = str(ROOT / "tests/interface/target/release/interface")
-ARCHIVE = ROOT / "target/staticlib/libcapi.a"
+ARCHIVES = ("capi", "capi_direct")
 KEPT = ROOT / "target/disagreement"
 PATIENCE = 120  # seconds after which a run counts as one that does not end
 
@@ -48,13 +48,15 @@ class Disagreement(Exception):
 
 
 def build():
-    """The programs and the archive where they are missing, and what cargo builds (it says itself whether there is anything to do)."""
+    """The programs and the archives where they are missing, and what cargo builds (it says itself whether there is anything to do)."""
     if not (pathlib.Path(CONSOLE).exists() and pathlib.Path(REPLAY).exists()):
         print("building console and replay and proving what they stand on; this takes some minutes the first time", flush=True)
         subprocess.run(["rt", "check", "console", "replay"], cwd=ROOT, check=True)
-    if not ARCHIVE.exists():
-        print(f"building {ARCHIVE.relative_to(ROOT)} and proving what it stands on", flush=True)
-        subprocess.run(["rt", "staticlib", "capi"], cwd=ROOT, check=True)
+    for name in ARCHIVES:
+        archive = ROOT / f"target/staticlib/lib{name}.a"
+        if not archive.exists():
+            print(f"building {archive.relative_to(ROOT)} and proving what it stands on", flush=True)
+            subprocess.run(["rt", "staticlib", name], cwd=ROOT, check=True)
     for package in ("tests/model", "tests/interface"):
         subprocess.run(["cargo", "build", "--release", "--offline", "--quiet"], cwd=ROOT / package, check=True)
 

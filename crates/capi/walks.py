@@ -1,5 +1,6 @@
 #!/usr/bin/env python3
-"""Writes the proofs of the exported functions over a device behind a pointer: proofs/rocker_*/Proof.antt. Run `rt fmt` after it.
+"""Writes the proofs of the exported functions over a device behind a pointer, of capi and of capi_direct: proofs/rocker_*/Proof.antt. Run
+`rt fmt` after it.
 
 Such a function is not covered by the borrow checker, so its proof is a walk of its MIR. The functions here have one of two bodies,
 
@@ -13,7 +14,7 @@ shr (`&[t]`) and cell (`&mut t`). `said` is G's `ensures` over h (the device), r
 import pathlib
 import re
 
-PROOFS = pathlib.Path(__file__).parent / "proofs"
+CRATES = pathlib.Path(__file__).parent.parent
 ARGS = "𝓤 H A at-mem rn"
 MODEL = "{M : Type 1} (𝓤 : URA M) (H : Heap 𝓤) (A : Atoms 𝓤)"
 GIVEN = f"{MODEL} (W : Given 𝓤 H A) (at-mem : Memory → SProp 𝓤) (rn : Routine → Fun 𝓤)"
@@ -65,25 +66,25 @@ use denote.Triple.Walked.{says, Stays, stay-ref, stay-none-ref, stay-none, stay-
 use denote.Exit.{yes}
 use denote.Signature.{plain, shrSliceOf}
 use Rattle.rules.specs.Switch.{Borrowed, switchOf, step}
-use Rattle.rules.specs.declared.Request.the-variants.{Read, Write, Frame}
+use Rattle.rules.specs.declared.Request.the-variants.{Read, Write, Process, Frame}
 use Rattle.rules.specs.declared.Device.{Device}
 use Rattle.rules.proofs.Device as T
 use Rattle.rules.proofs.Device.Laws as T′
 use Rattle.device.specs.Outcome.{borrowed}
-use Rattle.capi.specs.Asking.{asked}
-use Rattle.capi.specs.Outcome.{Outcome, FreshOutcome, ReadOutcome, WriteOutcome, FrameOutcome}
-use Rattle.capi.specs.declared.Performed.{Performed}
-use Rattle.capi.proofs.Performed as R
-use Rattle.capi.proofs.Performed.Laws as R′
-use Rattle.capi.proofs.Behind.{dev, of-device, of-answer}
-use Rattle.capi.proofs.G as g
-use Rattle.capi.proofs.G.Symbol as g-def
-use Rattle.capi.proofs.G.Symbol.{name as #callee}
-use Rattle.capi.proofs.G.Met as g-thm
-use Rattle.capi.proofs.F.Key.{name as #own}
-use Rattle.capi.proofs.F as f
-use Rattle.capi.proofs.F.Statement as stated
-use Rattle.capi.proofs.F.Code as code
+use OWN·specs.specs.Asking.{asked}
+use OWN·specs.specs.Outcome.{Outcome, FreshOutcome, ReadOutcome, WriteOutcome, ProcessOutcome, FrameOutcome}
+use BASE-SPECS.declared.Performed.{Performed}
+use BASE-PROOFS.Performed as R
+use BASE-PROOFS.Performed.Laws as R′
+use BASE-PROOFS.Behind.{dev, of-device, of-answer}
+use OWN·proofs.proofs.G as g
+use OWN·proofs.proofs.G.Symbol as g-def
+use OWN·proofs.proofs.G.Symbol.{name as #callee}
+use OWN·proofs.proofs.G.Met as g-thm
+use OWN·proofs.proofs.F.Key.{name as #own}
+use OWN·proofs.proofs.F as f
+use OWN·proofs.proofs.F.Statement as stated
+use OWN·proofs.proofs.F.Code as code
 """
 
 
@@ -153,8 +154,8 @@ class Parameter:
 
 
 class Walk:
-    def __init__(self, f, g, parameters, said, shared=False):
-        self.f, self.g, self.said, self.shared = f, g, said, shared
+    def __init__(self, crate, f, g, parameters, said, shared=False):
+        self.crate, self.f, self.g, self.said, self.shared = crate, f, g, said, shared
         self.ps, j = [], 0
         for name, kind, type_ in parameters:
             j += kind != "int"
@@ -186,7 +187,10 @@ class Walk:
 
     def text(self):
         body = "\n".join([*self.statics(), *self.exits(), *self.walk(), *self.close()])
-        uses = re.sub(r"\bG\b", self.g, re.sub(r"\bF\b", self.f, IMPORTS)).splitlines()
+        # what both crates use stands in capi, and is cited from below by its own modules, from above by its facade
+        base = ("Rattle.capi.specs", "Rattle.capi.proofs") if self.crate == "capi" else ("Rattle.capi.specs", "Rattle.capi.proofs")
+        uses = IMPORTS.replace("OWN", f"Rattle.{self.crate}").replace("BASE-SPECS", base[0]).replace("BASE-PROOFS", base[1])
+        uses = re.sub(r"\bG\b", self.g, re.sub(r"\bF\b", self.f, uses)).splitlines()
         words = {word.split(".")[0] for word in re.split(r"[\s(){},;]+", body)}
         return self.comment() + "\n".join(filter(None, (needed(u, words) for u in uses))) + "\n\n" + body + "\n"
 
@@ -195,7 +199,7 @@ class Walk:
         how = (f"The device behind the shared borrow is copied, and `{self.g}` is\n-- called with the copy{lent}." if self.shared else
                f"The borrow of the device is opened and its value is\n-- copied; `{self.g}` is called with the copy{lent};\n"
                "-- the device that it returned is stored, and the borrow is closed at it.")
-        return (f"-- `capi::{self.f}` meets its contract: a walk of its MIR, written by walks.py. {how}\n"
+        return (f"-- `{self.crate}::{self.f}` meets its contract: a walk of its MIR, written by walks.py. {how}\n"
                 f"-- All that the walk knows of `{self.g}` is that it meets its contract. Assumes nothing.\n")
 
     def statics(self):
@@ -387,7 +391,7 @@ unfolding code.routine tablesOf
     entered 𝓤 H (tripleOf 𝓤 H (𝓖 .A) f.signature (f.spec {own}))
     (tables 𝓤 H 𝓜 𝓡 code.env .C) (tables 𝓤 H 𝓜 𝓡 code.env .Λ) #own code.function (code.unfolded 𝓤 H 𝓜 𝓡)
     ({k}-meets 𝓤 H (𝓖 .A) (givenOf 𝓤 H 𝓜 𝓖) (𝓜 .mem) (𝓡 .run) (tablesOf 𝓤 H 𝓜 (tables 𝓤 H 𝓜 𝓡 code.env))
-    (cited 𝓤 H (Callee {own}) 𝓜 𝓡 code.env #callee g-def.routine code.calls-capi·{self.g.replace('_', '-')} (g-thm.met 𝓤 H 𝓜 𝓖 𝓡)))"""
+    (cited 𝓤 H (Callee {own}) 𝓜 𝓡 code.env #callee g-def.routine code.calls-{self.crate.replace('_', '-')}·{self.g.replace('_', '-')} (g-thm.met 𝓤 H 𝓜 𝓖 𝓡)))"""
 
 
 def closed(line):
@@ -417,21 +421,24 @@ def number(name):
 
 
 WALKS = [
-    Walk("rocker_fresh", "make", [number("ports"), number("id")], "FreshOutcome (r .answer) h (r .device) ports id"),
-    Walk("rocker_call", "perform",
+    Walk("capi", "rocker_fresh", "make", [number("ports"), number("id")], "FreshOutcome (r .answer) h (r .device) ports id"),
+    Walk("capi", "rocker_call", "perform",
          [number("kind"), number("na"), number("nb"), number("nc"), ("memory", "mut", "u8"), ("bytes", "shr", "u8"), ("buffer", "mut", "u8"),
           ("list", "mut", "u16"), ("out", "mut", "u64")],
          "Outcome (r .answer) h (r .device) z-memory z-buffer z-list out z-out (asked (switchOf h) (borrowed memory bytes buffer list) kind na nb nc (length out))"),
-    Walk("rocker_read", "read_register", [number("offset"), number("width"), ("value", "cell", "u64")],
+    Walk("capi_direct", "rocker_read", "read_register", [number("offset"), number("width"), ("value", "cell", "u64")],
          "((x : Borrowed) → ReadOutcome r z-value (step (switchOf h) x (Read offset width)))", shared=True),
-    Walk("rocker_register_write", "write_register", [number("offset"), number("width"), number("value")],
+    Walk("capi_direct", "rocker_register_write", "write_register", [number("offset"), number("width"), number("value")],
          "((x : Borrowed) → WriteOutcome (r .answer) h (r .device) (step (switchOf h) x (Write offset width value)))"),
-    Walk("rocker_frame", "frame_outputs", [number("port"), ("bytes", "shr", "u8"), ("list", "mut", "u16"), ("outputs", "cell", "u64")],
+    Walk("capi_direct", "rocker_process_slot", "process_slot",
+         [("memory", "mut", "u8"), ("buffer", "mut", "u8"), ("completed", "cell", "u64"), ("bytes", "cell", "u64")],
+         "((frame list : List ℕ) → ProcessOutcome (r .answer) h (r .device) z-memory z-buffer z-completed z-bytes (step (switchOf h) (borrowed memory frame buffer list) Process))"),
+    Walk("capi_direct", "rocker_frame", "frame_outputs", [number("port"), ("bytes", "shr", "u8"), ("list", "mut", "u16"), ("outputs", "cell", "u64")],
          "((memory buffer : List ℕ) → FrameOutcome r z-list z-outputs (step (switchOf h) (borrowed memory bytes buffer list) (Frame port)))", shared=True),
 ]
 
 if __name__ == "__main__":
     for walk in WALKS:
-        path = PROOFS / walk.f / "Proof.antt"
+        path = CRATES / walk.crate / "proofs" / walk.f / "Proof.antt"
         path.parent.mkdir(exist_ok=True)
         path.write_text(walk.text())

@@ -1,5 +1,5 @@
 -- What the exported functions promise of the device that stands behind the pointer, and of all that the host lends.
-use Prim.Native.Nat.{ℕ, _+_, _*_}
+use Prim.Native.Nat.{ℕ}
 use mathlib.Core.Bool.{Bool}
 use mathlib.Core.Path.{_≡_}
 use mathlib.Core.List.{List, [], _∷_}
@@ -39,23 +39,6 @@ pub record Outcome (answer : ℕ) (d d′ : Device) (memory buffer list out out�
 pub record FreshOutcome (answer : ℕ) (d d′ : Device) (ports id : ℕ) : Type 0 where
   pub answer-is : answer ≡ freshRefusal ports
   pub device-is : d′ ≡ choose (eqb (freshRefusal ports) 0) (freshDevice ports id) d
-
--- of a register read, which changes nothing
-pub record ReadOutcome (answer value : ℕ) (of : Result) : Type 0 where
-  pub answer-is : answer ≡ of .answer
-  pub value-is : value ≡ of .value
-
--- of a register write: its answer, and 256 more if vector 0 was raised
-pub record WriteOutcome (answer : ℕ) (d d′ : Device) (of : Result) : Type 0 where
-  pub answer-is : answer ≡ of .answer + 256 * bitOf (of .interrupt)
-  pub switch-is : switchOf d′ ≡ of .switch
-  pub kept : (of .answer ≡ 0 → ⊥) → d′ ≡ d
-
--- of a frame, which changes nothing but the list
-pub record FrameOutcome (answer : ℕ) (list : List ℕ) (outputs : ℕ) (of : Result) : Type 0 where
-  pub answer-is : answer ≡ of .answer
-  pub list-is : list ≡ of .list
-  pub outputs-are : outputs ≡ of .outputs
 
 -- the bytes of a device, as the logic's machine lays out its type
 unfoldable pub deviceSize : ℕ

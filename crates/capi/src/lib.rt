@@ -1,21 +1,19 @@
-// The C interface: a device that the host holds, behind a pointer. Each exported function copies the device, hands it by value to a
-// function of this crate and, where it may change, stores what comes back. No enum crosses the boundary: a request comes in as numbers,
-// and an answer goes out as its number of document 01. include/rocker.h declares the functions for C.
+// The C interface: a device that the host holds, behind a pointer, made and called by numbers. Each exported function copies the device,
+// hands it by value to a function of this crate and stores what comes back. No enum crosses the boundary: a request comes in as numbers,
+// and an answer goes out as its number of document 01. include/rocker.h declares the functions for C. The calls that a host makes often
+// have functions of their own, in the crate `capi_direct`.
 
 use rules::Answer;
 use rules::Device;
 use rules::Request;
 ghost use mathlib.Core.Path.{_≡_};
-ghost use mathlib.Core.List.{List, [], _∷_};
-ghost use Prim.Native.Nat.{ℕ, _+_, _*_};
+ghost use mathlib.Core.List.{[], _∷_};
 ghost use lib.ListN.{length};
 ghost use Rattle.rules.specs.Answers.{number};
-ghost use Rattle.rules.specs.Choose.{choose};
-ghost use Rattle.rules.specs.Switch.{Borrowed, switchOf, step};
-ghost use Rattle.rules.specs.declared.Request.the-variants.{Read, Write, Frame};
+ghost use Rattle.rules.specs.Switch.{switchOf};
 ghost use Rattle.device.specs.Outcome.{borrowed};
 ghost use Rattle.capi.specs.Asking.{askRefusal, requestOf, asked};
-ghost use Rattle.capi.specs.Outcome.{Outcome, FreshOutcome, ReadOutcome, WriteOutcome, FrameOutcome, outAfter, bitOf, deviceSize};
+ghost use Rattle.capi.specs.Outcome.{Outcome, FreshOutcome, outAfter, bitOf, deviceSize};
 
 // What a call leaves: the number of its answer, and the device after it.
 pub struct Performed {
@@ -73,20 +71,13 @@ fn request(kind: u64, a: u64, b: u64, c: u64) -> Request
     Request::Header
 }
 
-fn answer_of(a: Answer) -> u32
+pub fn answer_of(a: Answer) -> u32
     ensures { λ r. ⌜ r ≡ number a ⌝ }
 {
     answers::number(a) as u32
 }
 
-// An answer's number, and 256 more if vector 0 was raised.
-fn with_interrupt(a: Answer, raised: bool) -> u32
-    ensures { λ r. ⌜ r ≡ number a + 256 * bitOf raised ⌝ }
-{
-    (answers::number(a) + 256 * bit_of(raised)) as u32
-}
-
-fn bit_of(b: bool) -> u64
+pub fn bit_of(b: bool) -> u64
     ensures { λ r. ⌜ r ≡ bitOf b ⌝ }
 {
     if b { 1 } else { 0 }
@@ -106,7 +97,7 @@ fn report(out: &mut [u64], value: u64, interrupt: u64, completed: u64, bytes: u6
     out[4] = outputs;
 }
 
-// ---- By value, any call
+// ---- By value
 
 // Any call.
 fn perform(
@@ -168,63 +159,8 @@ fn make(d: Device, ports: u64, switch_id: u64) -> Performed
     }
 }
 
-// ---- By value, with no more than the call needs
-
-// A register read: the value goes to `value`, 0 where it is refused.
-fn read_register(d: Device, offset: u64, width: u64, value: &mut u64) -> u32
-    ensures { λ r. ⌜ ((b : Borrowed) → ReadOutcome r (now (value .exit)) (step (switchOf d) b (Read offset width))) ⌝ }
-{
-    let regs = d.registers;
-    let got = registers::read(regs, offset, width);
-    let answer = got.answer;
-    *value = got.value;
-    answer_of(answer)
-}
-
-// A table's count after a write.
-fn count_after(resets: bool, count: usize) -> usize
-    ensures { λ r. ⌜ r ≡ choose resets 0 count ⌝ }
-{
-    if resets { 0 } else { count }
-}
-
-// A register write; its answer, and 256 more if vector 0 was raised. It touches the registers and the two counts, at places that are
-// known when it is compiled, has one way out and stores nothing else: so the compiled code copies no table.
-fn write_register(d: Device, offset: u64, width: u64, value: u64) -> Performed
-    ensures { λ r. ⌜ ((b : Borrowed) → WriteOutcome (r .answer) d (r .device) (step (switchOf d) b (Write offset width value))) ⌝ }
-{
-    let regs = d.registers;
-    let w = registers::write(regs, offset, width, value);
-    let answer = w.answer;
-    let after = w.registers;
-    let flows = count_after(w.resets, d.flows.count);
-    let groups = count_after(w.resets, d.groups.count);
-    let mut next = d;
-    next.registers = after;
-    next.flows.count = flows;
-    next.groups.count = groups;
-    Performed {
-        answer: with_interrupt(answer, w.interrupt),
-        device: next,
-    }
-}
-
-// A frame in at a port: its outputs go to the start of the list, and how many they are to `outputs`.
-fn frame_outputs(d: Device, port: u64, frame: &[u8], list: &mut [u16], outputs: &mut u64) -> u32
-    ensures { λ r. ⌜ ((memory buffer : List ℕ) → FrameOutcome r (now (list .exit)) (now (outputs .exit)) (step (switchOf d) (borrowed memory (now (frame .entry)) buffer (now (list .entry))) (Frame port))) ⌝ }
-{
-    let regs = d.registers;
-    let flows = d.flows;
-    let groups = d.groups;
-    let x = egress::frame(regs, flows, groups, port, frame, list);
-    let answer = x.answer;
-    *outputs = x.outputs as u64;
-    answer_of(answer)
-}
-
 // ---- Exported
 
-// The bytes of a device: 80 of registers, then two tables, each a count and its entries.
 #[no_mangle]
 pub extern "C" fn rocker_size() -> u64
     ensures { λ r. ⌜ r ≡ deviceSize ⌝ }
@@ -259,33 +195,4 @@ pub extern "C" fn rocker_call(
     let done = perform(*d, kind, a, b, c, memory, frame, buffer, list, out);
     *d = done.device;
     done.answer
-}
-
-#[no_mangle]
-pub extern "C" fn rocker_read(d: &Device, offset: u64, width: u64, value: &mut u64) -> u32
-    ensures { λ r. ⌜ ((b : Borrowed) → ReadOutcome r (now (value .exit)) (step (switchOf (now (d .entry))) b (Read offset width))) ⌝ }
-{
-    read_register(*d, offset, width, value)
-}
-
-#[no_mangle]
-pub extern "C" fn rocker_register_write(d: &mut Device, offset: u64, width: u64, value: u64) -> u32
-    ensures { λ r. ⌜ ((b : Borrowed) → WriteOutcome r (now (d .entry)) (now (d .exit)) (step (switchOf (now (d .entry))) b (Write offset width value))) ⌝ }
-{
-    let written = write_register(*d, offset, width, value);
-    *d = written.device;
-    written.answer
-}
-
-#[no_mangle]
-pub extern "C" fn rocker_frame(
-    d: &Device,
-    port: u64,
-    frame: &[u8],
-    list: &mut [u16],
-    outputs: &mut u64,
-) -> u32
-    ensures { λ r. ⌜ ((memory buffer : List ℕ) → FrameOutcome r (now (list .exit)) (now (outputs .exit)) (step (switchOf (now (d .entry))) (borrowed memory (now (frame .entry)) buffer (now (list .entry))) (Frame port))) ⌝ }
-{
-    frame_outputs(*d, port, frame, list, outputs)
 }

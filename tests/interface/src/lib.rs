@@ -22,7 +22,6 @@ struct Outcome {
 }
 
 const LINK: u64 = 2;
-const PROCESS: u64 = 3;
 const HEADER: u64 = 5;
 
 // A slice is a pointer and a length; a pointer is never null, also where the length is 0.
@@ -46,6 +45,15 @@ extern "C" {
         list_length: usize,
         out: *mut u64,
         out_length: usize,
+    ) -> u32;
+    fn rocker_process_slot(
+        d: *mut Rocker,
+        memory: *mut u8,
+        memory_length: usize,
+        buffer: *mut u8,
+        buffer_length: usize,
+        completed: *mut u64,
+        bytes: *mut u64,
     ) -> u32;
     fn rocker_read(d: *const Rocker, offset: u64, width: u64, value: *mut u64) -> u32;
     fn rocker_register_write(d: *mut Rocker, offset: u64, width: u64, value: u64) -> u32;
@@ -130,10 +138,25 @@ impl Calls for Rocker {
     }
 
     fn work(&mut self, memory: &mut [u8], room: &mut [u8]) -> Result<Worked, Refusal> {
-        self.plain(PROCESS, 0, 0, memory, room).map(|o| Worked {
-            raised: o.raised == 1,
-            length: o.bytes as usize,
-        })
+        let (mut completed, mut bytes) = (0, 0);
+        let r = unsafe {
+            rocker_process_slot(
+                self,
+                memory.as_mut_ptr(),
+                memory.len(),
+                room.as_mut_ptr(),
+                room.len(),
+                &mut completed,
+                &mut bytes,
+            )
+        };
+        answered(
+            r % 256,
+            Worked {
+                raised: r / 256 == 1,
+                length: bytes as usize,
+            },
+        )
     }
 
     fn frame(&self, port: u64, frame: &[u8], list: &mut [u16]) -> Result<usize, Refusal> {

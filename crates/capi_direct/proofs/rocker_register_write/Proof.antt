@@ -1,4 +1,4 @@
--- `capi::rocker_register_write` meets its contract: a walk of its MIR, written by walks.py. The borrow of the device is opened and its value is
+-- `capi_direct::rocker_register_write` meets its contract: a walk of its MIR, written by walks.py. The borrow of the device is opened and its value is
 -- copied; `write_register` is called with the copy;
 -- the device that it returned is stored, and the borrow is closed at it.
 -- All that the walk knows of `write_register` is that it meets its contract. Assumes nothing.
@@ -45,19 +45,19 @@ use Rattle.rules.specs.declared.Request.the-variants.{Write}
 use Rattle.rules.specs.declared.Device.{Device}
 use Rattle.rules.proofs.Device as T
 use Rattle.rules.proofs.Device.Laws as T′
-use Rattle.capi.specs.Outcome.{WriteOutcome}
+use Rattle.capi_direct.specs.Outcome.{WriteOutcome}
 use Rattle.capi.specs.declared.Performed.{Performed}
 use Rattle.capi.proofs.Performed as R
 use Rattle.capi.proofs.Performed.Laws as R′
 use Rattle.capi.proofs.Behind.{dev, of-device, of-answer}
-use Rattle.capi.proofs.write_register as g
-use Rattle.capi.proofs.write_register.Symbol as g-def
-use Rattle.capi.proofs.write_register.Symbol.{name as #callee}
-use Rattle.capi.proofs.write_register.Met as g-thm
-use Rattle.capi.proofs.rocker_register_write.Key.{name as #own}
-use Rattle.capi.proofs.rocker_register_write as f
-use Rattle.capi.proofs.rocker_register_write.Statement as stated
-use Rattle.capi.proofs.rocker_register_write.Code as code
+use Rattle.capi_direct.proofs.write_register as g
+use Rattle.capi_direct.proofs.write_register.Symbol as g-def
+use Rattle.capi_direct.proofs.write_register.Symbol.{name as #callee}
+use Rattle.capi_direct.proofs.write_register.Met as g-thm
+use Rattle.capi_direct.proofs.rocker_register_write.Key.{name as #own}
+use Rattle.capi_direct.proofs.rocker_register_write as f
+use Rattle.capi_direct.proofs.rocker_register_write.Statement as stated
+use Rattle.capi_direct.proofs.rocker_register_write.Code as code
 
 abbrev stayed : Stays (f.ended .signature .params) (f.ended .kept)
 stayed = (stay-ref (0 ∷ []) tt (plain (λ _. T.the-row)), (stay-none (λ _. u64) yes, (stay-none (λ _. u64) yes, (stay-none (λ _. u64) yes, tt))))
@@ -156,4 +156,4 @@ rocker-register-write-spec 𝓤 H 𝓜 𝓖 𝓡 =
     entered 𝓤 H (tripleOf 𝓤 H (𝓖 .A) f.signature (f.spec 𝓤 H (𝓖 .A) (𝓜 .mem) (𝓡 .run)))
     (tables 𝓤 H 𝓜 𝓡 code.env .C) (tables 𝓤 H 𝓜 𝓡 code.env .Λ) #own code.function (code.unfolded 𝓤 H 𝓜 𝓡)
     (rocker-register-write-meets 𝓤 H (𝓖 .A) (givenOf 𝓤 H 𝓜 𝓖) (𝓜 .mem) (𝓡 .run) (tablesOf 𝓤 H 𝓜 (tables 𝓤 H 𝓜 𝓡 code.env))
-    (cited 𝓤 H (Callee 𝓤 H (𝓖 .A) (𝓜 .mem) (𝓡 .run)) 𝓜 𝓡 code.env #callee g-def.routine code.calls-capi·write-register (g-thm.met 𝓤 H 𝓜 𝓖 𝓡)))
+    (cited 𝓤 H (Callee 𝓤 H (𝓖 .A) (𝓜 .mem) (𝓡 .run)) 𝓜 𝓡 code.env #callee g-def.routine code.calls-capi-direct·write-register (g-thm.met 𝓤 H 𝓜 𝓖 𝓡)))

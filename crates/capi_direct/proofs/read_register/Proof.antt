@@ -1,10 +1,10 @@
 use borrow.Author.Needs.{needs}
-use Rattle.capi.proofs.Outcomes.{read-parts}
-use Rattle.capi.proofs.read_register.Statement.{statement}
-use Rattle.capi.proofs.read_register.Tie as tie
-use Rattle.capi.proofs.read_register.Reads as reads
-use Rattle.capi.proofs.read_register.Lts as lts
+use Rattle.capi_direct.proofs.Outcomes.{read-parts}
+use Rattle.capi_direct.proofs.read_register.Statement.{statement}
+use Rattle.capi_direct.proofs.read_register.Tie as tie
+use Rattle.capi_direct.proofs.read_register.Reads as reads
+use Rattle.capi_direct.proofs.read_register.Lts as lts
 use Rattle.capi.proofs.answer_of.Reads as answer-of-reads
 use Rattle.registers.proofs.read.Reads as read-reads
 
 read-requires : tie.Need-read-requires

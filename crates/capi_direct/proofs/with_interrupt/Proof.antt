@@ -1,11 +1,11 @@
 use native.Mathlib.Omega.{arith}
 use borrow.Author.Needs.{needs}
 use Rattle.capi.proofs.Numbers.{answer-small, bit-small}
-use Rattle.capi.proofs.with_interrupt.Statement.{statement}
-use Rattle.capi.proofs.with_interrupt.Tie as tie
-use Rattle.capi.proofs.with_interrupt.Reads as reads
-use Rattle.capi.proofs.with_interrupt.Lts as lts
+use Rattle.capi_direct.proofs.with_interrupt.Statement.{statement}
+use Rattle.capi_direct.proofs.with_interrupt.Tie as tie
+use Rattle.capi_direct.proofs.with_interrupt.Reads as reads
+use Rattle.capi_direct.proofs.with_interrupt.Lts as lts
 use Rattle.capi.proofs.bit_of.Reads as bit-of-reads
 use Rattle.answers.proofs.number.Reads as number-reads
 
 number-requires : tie.Need-number-requires

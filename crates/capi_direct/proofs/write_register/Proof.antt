@@ -1,11 +1,11 @@
 use borrow.Author.Needs.{needs}
-use Rattle.capi.proofs.Outcomes.{write-parts}
-use Rattle.capi.proofs.write_register.Statement.{statement}
-use Rattle.capi.proofs.write_register.Tie as tie
-use Rattle.capi.proofs.write_register.Reads as reads
-use Rattle.capi.proofs.write_register.Lts as lts
-use Rattle.capi.proofs.count_after.Reads as count-after-reads
-use Rattle.capi.proofs.with_interrupt.Reads as with-interrupt-reads
+use Rattle.capi_direct.proofs.Outcomes.{write-parts}
+use Rattle.capi_direct.proofs.write_register.Statement.{statement}
+use Rattle.capi_direct.proofs.write_register.Tie as tie
+use Rattle.capi_direct.proofs.write_register.Reads as reads
+use Rattle.capi_direct.proofs.write_register.Lts as lts
+use Rattle.capi_direct.proofs.count_after.Reads as count-after-reads
+use Rattle.capi_direct.proofs.with_interrupt.Reads as with-interrupt-reads
 use Rattle.registers.proofs.write.Reads as write-reads
 
 write-requires : tie.Need-write-requires

@@ -1,11 +1,11 @@
 use borrow.Author.Needs.{needs}
 use Rattle.rules.specs.Tables.{tablesOf}
-use Rattle.capi.proofs.Outcomes.{frame-parts}
-use Rattle.capi.proofs.frame_outputs.Statement.{statement}
-use Rattle.capi.proofs.frame_outputs.Tie as tie
-use Rattle.capi.proofs.frame_outputs.Reads as reads
-use Rattle.capi.proofs.frame_outputs.Lts as lts
+use Rattle.capi_direct.proofs.Outcomes.{frame-parts}
+use Rattle.capi_direct.proofs.frame_outputs.Statement.{statement}
+use Rattle.capi_direct.proofs.frame_outputs.Tie as tie
+use Rattle.capi_direct.proofs.frame_outputs.Reads as reads
+use Rattle.capi_direct.proofs.frame_outputs.Lts as lts
 use Rattle.capi.proofs.answer_of.Reads as answer-of-reads
 use Rattle.egress.proofs.frame.Reads as frame-reads
 
 frame-requires : tie.Need-frame-requires
