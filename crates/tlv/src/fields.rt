@@ -1,5 +1,8 @@
 // The table of fields, and a CMD_INFO's fields looked up by it. Every function is equal to a rule of `rules`.
 ghost use mathlib.Core.Path.{_≡_};
+ghost use Prim.Native.Nat.{ℕ, _<_};
+ghost use lib.ListN.{getD};
+ghost use Rattle.rules.specs.declared.FieldRule.{FieldRule};
 ghost use Rattle.rules.specs.Fields.{ruleOf, field as Fields·field, given as Fields·given, value as Fields·value, right as Fields·right, hasUser, fieldRight, fieldsRight};
 use rules::FieldRule;
 use rules::Found;
@@ -246,6 +249,13 @@ const FIELDS: [FieldRule; 63] = [
     UNLISTED,
 ];
 
+// The rows, for whoever goes over them: where a constant array is read at a place that is not known, it is built first.
+fn table() -> [FieldRule; 63]
+    ensures { λ r. ⌜ ((t : ℕ) (d : FieldRule) → t < 63 → getD r t d ≡ ruleOf t) ⌝ }
+{
+    FIELDS
+}
+
 pub fn rule_of(t: u32) -> FieldRule
     ensures { λ r. ⌜ r ≡ ruleOf t ⌝ }
 {
@@ -272,7 +282,7 @@ pub fn value(s: &[u8], t: u32) -> u64
     ensures { λ r. ⌜ r ≡ Fields·value (now (s .entry)) t ⌝ }
 {
     let rule = rule_of(t);
-    super::number_in(s, rule.width, field(s, t))
+    super::number_in(s, rule.width, super::find(s, t, rule.width))
 }
 
 fn right(needed: bool, f: Found) -> bool
@@ -292,24 +302,26 @@ fn has_user(set: u8, who: u8) -> bool
 }
 
 // A field that is used is right; one that is not used is skipped.
-fn field_right(s: &[u8], who: u8, t: u32) -> bool
+fn field_right(s: &[u8], who: u8, t: u32, rule: FieldRule) -> bool
+    requires { ⌜ rule ≡ ruleOf t ⌝ }
     ensures { λ r. ⌜ r ≡ fieldRight (now (s .entry)) who t ⌝ }
 {
-    let rule = rule_of(t);
     if !has_user(rule.uses, who) {
         return true;
     }
-    right(has_user(rule.needs, who), field(s, t))
+    right(has_user(rule.needs, who), super::find(s, t, rule.width))
 }
 
 // No field is missing, repeated or of another width for who reads the region. No type past POP_VLAN is listed.
 pub fn fields_right(s: &[u8], who: u8) -> bool
     ensures { λ r. ⌜ r ≡ fieldsRight (now (s .entry)) who ⌝ }
 {
-    let mut t = 44;
+    let rules = table();
+    let mut t: u32 = 44;
     while 0 < t {
         t -= 1;
-        if !field_right(s, who, t) {
+        let rule = rules[t as usize];
+        if !field_right(s, who, t, rule) {
             return false;
         }
     }

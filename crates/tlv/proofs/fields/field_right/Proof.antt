@@ -1,49 +1,37 @@
-use Rattle.rules.specs.Fields.{fieldRight}
+use Rattle.rules.specs.Fields.{field, fieldRight}
 use borrow.Author.Tests.{not-true, not-false}
 use borrow.Author.Needs.{needs}
 use Rattle.tlv.proofs.fields.field_right.Statement.{statement}
 use Rattle.tlv.proofs.fields.field_right.Tie as tie
-
-rule-of-requires : tie.Need-rule-of-requires
-rule-of-requires c κs = search needs
 
 has-user-requires : tie.Need-has-user-requires
 has-user-requires c κs = search needs
 
 returns : tie.Need-returns
 unfolding fieldRight
-returns c = simp (← c .before .before .rule-of .ensures, ← c .before .has-user .ensures, not-true (c .before .has-user .result) (c .if1 .taken))
+returns c = simp (← c .before .before .before .pre, ← c .before .has-user .ensures, not-true (c .before .has-user .result) (c .if1 .taken))
 
 has-user-requires-2 : tie.Need-has-user-requires-2
 has-user-requires-2 c κs = search needs
 
-field-requires : tie.Need-field-requires
-field-requires c κs = search needs
+find-requires : tie.Need-find-requires
+find-requires c κs = search needs
 
 right-requires : tie.Need-right-requires
 right-requires c κs = search needs
 
 returns-2 : tie.Need-returns-2
-unfolding fieldRight
+unfolding fieldRight field
 returns-2 c =
     let e = c .before .before .before in
     simp (
-      ← e .before .before .rule-of .ensures,
+      ← e .before .before .before .pre,
       ← e .before .has-user .ensures,
       not-false (e .before .has-user .result) (e .if1 .left),
       ← c .before .before .has-user2 .ensures,
-      ← c .before .field .ensures,
+      ← c .before .find .ensures,
     )
     (c .right .ensures)
 
 pub field-right-spec : {M : Type 1} → statement M
-field-right-spec =
-    tie.close
-    (tie.spec
-    rule-of-requires
-    has-user-requires
-    returns
-    has-user-requires-2
-    field-requires
-    right-requires
-    returns-2)
+field-right-spec = tie.close (tie.spec has-user-requires returns has-user-requires-2 find-requires right-requires returns-2)

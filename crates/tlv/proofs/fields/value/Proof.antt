@@ -1,5 +1,5 @@
 use Rattle.rules.proofs.FieldTable.{narrow}
-use Rattle.rules.specs.Fields.{value, ruleOf}
+use Rattle.rules.specs.Fields.{field, value, ruleOf}
 use mathlib.Core.Path.{_≡_}
 use Prim.Native.Nat.{min}
 use native.Mathlib.Omega.{arith}
@@ -10,18 +10,18 @@ use Rattle.tlv.proofs.fields.value.Tie as tie
 rule-of-requires : tie.Need-rule-of-requires
 rule-of-requires c κs = search needs
 
-field-requires : tie.Need-field-requires
-field-requires c κs = search needs
+find-requires : tie.Need-find-requires
+find-requires c κs = search needs
 
 number-in-requires : tie.Need-number-in-requires
 number-in-requires c κs = search needs
 
 returns : tie.Need-returns
-unfolding value
+unfolding value field
 returns c =
     let t = c .before .before .before .before .args .t in
     let e : min (ruleOf t .width) 8 ≡ ruleOf t .width = omega (arith, narrow t) in
     cc
 
 pub value-spec : {M : Type 1} → statement M
-value-spec = tie.close (tie.spec rule-of-requires field-requires number-in-requires returns)
+value-spec = tie.close (tie.spec rule-of-requires find-requires number-in-requires returns)
