@@ -165,7 +165,7 @@ class Walk:
         self.slices = [p for p in self.lent if p.kind != "cell"]
         self.lengths = "".join(f" l-{p.name}" for p in self.told if p.kind == "mut")
         # locals: the result, the device, the parameters, what G gives (not where it goes to the result at once), the copy of the device,
-        # and for what is lent on its address and, of a slice, the pair of that and the length
+        # and for each other borrow its address and, of a slice, the pair of that and the length
         self.result = 0 if shared else len(self.ps) + 2
         self.copy = len(self.ps) + (2 if shared else 3)
         self.locals, self.address = self.copy + 1, {}
@@ -195,7 +195,7 @@ class Walk:
         return self.comment() + "\n".join(filter(None, (needed(u, words) for u in uses))) + "\n\n" + body + "\n"
 
     def comment(self):
-        lent = " and with what is lent, which is given up for good" if self.lent else ""
+        lent = " and with the other borrows, which are given up for good" if self.lent else ""
         how = (f"The device behind the shared borrow is copied, and `{self.g}` is\n-- called with the copy{lent}." if self.shared else
                f"The borrow of the device is opened and its value is\n-- copied; `{self.g}` is called with the copy{lent};\n"
                "-- the device that it returned is stored, and the borrow is closed at it.")
@@ -213,7 +213,7 @@ class Walk:
         binders = " ".join(p.binder for p in ps)
         yield f"module _ {GIVEN} ({' '.join(self.κ)} : Lft) ({' '.join(self.q)} : Share) (b o : ℕ) (γ : GName) (h : Device) {binders} where"
         if self.lent:
-            yield "  -- what is lent, and its machine values"
+            yield "  -- the other borrows, and their machine values"
         for p in self.lent:
             machine = f"vptr b-{p.name} o-{p.name}" if p.kind == "cell" else f"sliceVal (b-{p.name}, o-{p.name}) (length {p.name})"
             yield f"  abbrev x-{p.name} : {p.denotes}\n  x-{p.name} = record {{ ptr = (b-{p.name}, o-{p.name}); name = γ-{p.name}; now = {p.name} }}\n"
@@ -222,7 +222,7 @@ class Walk:
         yield f"  a = {nest(['record { ptr = (b, o); name = γ; now = h }'] + [p.value for p in ps])}\n"
         yield f"  abbrev vals : {product(['List Val'] * (len(ps) + 1))}\n  vals = {nest(['vptr b o ∷ []'] + [f'{p.machine} ∷ []' for p in ps])}\n"
         yield f"  abbrev Post : Val → SProp 𝓤\n  Post = walkOf 𝓤 H A f.ended stayed (f.clauses {ARGS}) .post {self.bound}\n"
-        yield f"  -- what `{self.g}`'s triple binds outside: what is lent, at its own lifetimes, shares and names"
+        yield f"  -- what `{self.g}`'s triple binds outside: the other borrows, at their own lifetimes, shares and names"
         yield f"  abbrev passed : {product(['Device'] + [p.denotes for p in ps])}\n  passed = {nest(['h'] + [p.value for p in ps])}\n"
         values = nest(["dev h"] + [f"{p.machine} ∷ []" for p in ps])
         yield f"  abbrev to-callee : Callee {ARGS} .Ghost\n  to-callee = (({nest(self.κ[1:])}, {nest(self.q[1:])}, tt, passed, {values}), tt)\n"
@@ -271,7 +271,7 @@ class Walk:
         yield "\n".join("        " + line for line in lines) + ")" * depth
 
     def enter(self):
-        """The locals are made, the device is copied, and what is lent is lent on."""
+        """The locals are made, the device is copied, and the other borrows are passed on."""
         ps, n = self.ps, self.locals
         row = f"{'ShrRef' if self.shared else 'MutRef'} (named 0) κ0 T.the-row"
         yield f"qed W ({self.token_list(0)} ∷ ‵ (owns ({cons([row] + [p.row for p in ps])}) a vals) ∷ []) ∵\n        enter ! C Λ code.function ({self.values}) _ $"

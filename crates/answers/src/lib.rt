@@ -4,7 +4,6 @@ use rules::Status;
 ghost use mathlib.Core.Path.{_≡_};
 ghost use Rattle.rules.specs.Answers.{number as Answers·number, code as Answers·code};
 
-// The number of an answer.
 pub fn number(answer: Answer) -> u64
     ensures { λ r. ⌜ r ≡ Answers·number answer ⌝ }
 {
@@ -27,7 +26,6 @@ pub fn number(answer: Answer) -> u64
     }
 }
 
-// The code of a status.
 pub fn code(status: Status) -> u16
     ensures { λ r. ⌜ r ≡ Answers·code status ⌝ }
 {

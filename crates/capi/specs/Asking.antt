@@ -7,8 +7,8 @@ use Rattle.rules.specs.Switch.{Switch, Borrowed, Result, unlessRefused, step}
 use Rattle.rules.specs.declared.Request.{Request}
 use Rattle.rules.specs.declared.Request.the-variants.{Read, Write, Link, Process, Frame, Header}
 
--- 2 (value not allowed): a kind above 5, or a link state that is neither 0 nor 1. 9 (list too short): fewer than five places for the
--- outcome's numbers
+-- 2 (value not allowed): a kind above 5, or a link state that is neither 0 nor 1. 9 (list too short): an `out` of fewer
+-- than five numbers
 unfoldable pub askRefusal : ℕ → ℕ → ℕ → ℕ
 askRefusal kind b room = refuse (ltb 5 kind) 2 (refuse (eqb kind 2 && ltb 1 b) 2 (refuse (ltb room 5) 9 0))
 

@@ -1,4 +1,4 @@
--- What the exported functions promise of the device that stands behind the pointer, and of all that the host lends.
+-- What the exported functions promise of the device that stands behind the pointer, and of all that is borrowed from the host.
 use Prim.Native.Nat.{ℕ}
 use mathlib.Core.Bool.{Bool}
 use mathlib.Core.Path.{_≡_}
@@ -19,7 +19,7 @@ bitOf b = choose b 1 0
 unfoldable pub numbersOf : Result → List ℕ
 numbersOf of = of .value ∷ bitOf (of .interrupt) ∷ of .completed ∷ of .length ∷ of .outputs ∷ []
 
--- five numbers at the start of a list that has room for them; the rest is kept
+-- five numbers at the start of a list, if they fit; the rest is kept
 unfoldable pub outAfter : List ℕ → List ℕ → List ℕ
 outAfter five out = choose (ltb (length out) 5) out (splice 0 five out)
 

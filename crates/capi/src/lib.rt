@@ -23,7 +23,7 @@ pub struct Performed {
 
 // ---- Numbers in and out
 
-// Why the numbers ask for nothing: 2 for a kind or a link state that does not exist, 9 for too short a place for the outcome; else 0.
+// Why the numbers ask for nothing: 2 for a kind or a link state that does not exist, 9 for an `out` that is too short; else 0.
 fn refusal(kind: u64, b: u64, room: usize) -> u32
     ensures { λ r. ⌜ r ≡ askRefusal kind b room ⌝ }
 {
@@ -83,7 +83,7 @@ pub fn bit_of(b: bool) -> u64
     if b { 1 } else { 0 }
 }
 
-// The five numbers of an outcome, to the start of `out` if it has room for them.
+// The five numbers of an outcome, to the start of `out` if they fit.
 fn report(out: &mut [u64], value: u64, interrupt: u64, completed: u64, bytes: u64, outputs: u64)
     ensures { λ r. ⌜ now (out .exit) ≡ outAfter (value ∷ interrupt ∷ completed ∷ bytes ∷ outputs ∷ []) (now (out .entry)) ⌝ }
 {

@@ -1,4 +1,4 @@
--- What each call promises of the device that stands behind the pointer, and of all that the host lends.
+-- What each call promises of the device that stands behind the pointer, and of all that is borrowed from the host.
 use Prim.Native.Nat.{ℕ, _+_, _*_}
 use mathlib.Core.Path.{_≡_}
 use mathlib.Core.List.{List}

@@ -43,7 +43,7 @@ fn count_after(resets: bool, count: usize) -> usize
     if resets { 0 } else { count }
 }
 
-// A register write; its answer, and 256 more if vector 0 was raised. It touches the registers and the two counts, at places that are
+// A register write; its answer, and 256 more if vector 0 was raised. It touches the registers and the two counts, whose offsets are
 // known when it is compiled, has one way out and stores nothing else: so the compiled code copies no table.
 fn write_register(d: Device, offset: u64, width: u64, value: u64) -> Performed
     ensures { λ r. ⌜ ((b : Borrowed) → WriteOutcome (r .answer) d (r .device) (step (switchOf d) b (Write offset width value))) ⌝ }
@@ -64,8 +64,8 @@ fn write_register(d: Device, offset: u64, width: u64, value: u64) -> Performed
     }
 }
 
-// The slot at TAIL: its answer, and 256 more if vector 0 was raised; the completion goes to `completed`, and how many bytes were
-// written to the buffer to `bytes`.
+// A process call; its answer, and 256 more if vector 0 was raised. The completion goes to `completed`, and how many bytes were written
+// to the buffer to `bytes`.
 fn process_slot(
     d: Device,
     memory: &mut [u8],

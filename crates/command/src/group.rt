@@ -17,7 +17,7 @@ use rules::Group;
 use rules::Status;
 use tlv::fields;
 
-// The group itself, of a count that was held to its members.
+// The group itself. Its count was compared with its members, so it fits 8 bits.
 fn group_of(s: &[u8], id: u32) -> Group
     requires { ⌜ (eqb (groupType id) 0 ≡ false → value (now s) 12 < 256) ⌝ }
     ensures { λ r. ⌜ r ≡ groupOf (now (s .entry)) id ⌝ }

@@ -41,7 +41,7 @@ fn refused(e: Status) -> Decoding
     }
 }
 
-// A command, with the low bits of its group's members at the front of the places.
+// A command, with the low bits of its group's members at the front of `lows`.
 fn carried(command: Command, lows: [u16; 62]) -> Decoding
     ensures { λ r. ⌜ ((l : List ℕ) → lows ≡ pad l → r ≡ Decode·carried command l) ⌝ }
 {

@@ -1,4 +1,4 @@
--- A scan down the live flows that keeps the place of what it found. For any matching test, so for tables 0, 10 and 50 alike.
+-- A scan down the live flows that keeps the index of what it found. For any matching test, so for tables 0, 10 and 50 alike.
 -- Assumes nothing.
 use Prim.Native.Nat.{ℕ, zero, suc, _-_, _<_, _≤_}
 use mathlib.Core.Bool.{Bool, true, false}
@@ -41,7 +41,7 @@ best-less m count es (suc i) h k =
     let e : suc i - 1 ≡ i = omega arith in
     rw (e, drop-cons (take count es) i freeFlow (omega arith), live-at count i freeFlow es (omega arith)) refl
 
--- The scan has come down to i, and has found what stands at a place, or nothing
+-- The scan has come down to i, and has found what stands at an index, or nothing
 pub record Scanned (m : FlowEntry → Bool) (count : ℕ) (es : List FlowEntry) (i : ℕ) (found : Bool) (at : ℕ) : Type 0 where
   pub is : choose found (some (getD es at freeFlow)) none ≡ best m beats (drop i (take count es))
 

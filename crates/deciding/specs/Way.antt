@@ -13,7 +13,7 @@ use Rattle.deciding.specs.declared.WayOut.{WayOut}
 unfoldable pub matchesIn : ℕ → ℕ → ℕ → ℕ → FlowEntry → Bool
 matchesIn table port vlan mac = choose (eqb table 0) (matches0 port) (choose (eqb table 10) (matches10 port vlan) (matches50 vlan mac))
 
--- whether a match e takes the place of what was found so far
+-- whether a match e replaces what was found so far
 unfoldable pub isTaken : Bool → FlowEntry → FlowEntry → Bool
 isTaken found e b = choose found (beats e b) true
 

@@ -67,7 +67,7 @@ fn beats(a: FlowEntry, b: FlowEntry) -> bool
     b.priority < a.priority
 }
 
-// Whether a match takes the place of what was found so far.
+// Whether a match replaces what was found so far.
 fn is_taken(found: bool, e: FlowEntry, b: FlowEntry) -> bool
     ensures { λ r. ⌜ r ≡ isTaken found e b ⌝ }
 {
@@ -105,7 +105,7 @@ fn vlan_after(table: u16, vlan: u16, new_vlan_id: u16) -> u16
     }
 }
 
-// How many entry slots are live, whatever the count says.
+// How many entries are live: a count beyond the entry slots counts as all of them.
 pub fn live(count: usize, slots: usize) -> usize
     ensures { λ r. ⌜ r ≡ min count slots ⌝ }
 {
@@ -122,8 +122,8 @@ fn dropped() -> WayOut
     }
 }
 
-// The way through tables 0, 10 and 50. The scans stand in one function, which reads the flows by place: each function that is
-// handed a table and reads it at a computed place copies the whole of it.
+// The way through tables 0, 10 and 50. The scans stand in one function, which reads the flows by index: each function that is
+// handed a table and reads it at a computed index copies the whole of it.
 pub fn way(flows: FlowTable, port: u32, vlan: u16, mac: u64) -> WayOut
     ensures { λ r. ⌜ exitIn r ≡ wayFrom (liveFlows flows) port mac 0 vlan ⌝ }
 {

@@ -18,7 +18,7 @@ use Rattle.device.specs.Outcome.{Outcome, borrowed, quiet}
 use Rattle.device.specs.declared.slot.Slot.{Slot}
 use Rattle.device.specs.declared.slot.Taken.{Taken}
 
--- a slot s that may be completed: nothing refuses it, its descriptor stands at a position, and its record has room
+-- a slot s that may be completed: nothing refuses it, its descriptor stands at a position, and its record fits the buffer
 pub record Ready (s : Slot) (at : ℕ) (ring : Ring) (memory : List ℕ) (room : ℕ) : Type 0 where
   pub posted : ring .head ≡ ring .tail → ⊥
   pub uncredited : ring .credits < 65536

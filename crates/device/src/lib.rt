@@ -148,8 +148,8 @@ pub fn header(d: Device, buffer: &mut [u8]) -> Called
     r
 }
 
-// Process one slot (document 01: the work call): consume the descriptor at TAIL, or say why not. The device is changed in one place
-// and handed back by one way out: what is compiled then copies it least.
+// Process (document 01: the work call): carry out and complete the slot at TAIL, or say why not. The device is changed in one local and
+// handed back by one way out: what is compiled then copies it least.
 pub fn process(d: Device, memory: &mut [u8], buffer: &mut [u8]) -> Called
     ensures { λ r. ⌜ ((frame list : List ℕ) → Outcome r d (now (memory .exit)) (now (buffer .exit)) list (step (switchOf d) (borrowed (now (memory .entry)) frame (now (buffer .entry)) list) Process)) ⌝ }
 {

@@ -62,7 +62,7 @@ module _ {size head tail : ℕ} {b : RingHistory} (h : Tied size head tail b) wh
         tail-in = h .tail-in;
       }
 
-  -- a slot consumed
+  -- a slot completed
   tied-consumed : (head ≡ tail → ⊥) → Tied size head ((tail + 1) % size) (consumes b tail)
   unfolding consumes slots
   tied-consumed ne =

@@ -1,4 +1,4 @@
--- Members collected, a TLV at a time, into the front of 62 places.
+-- Members collected, a TLV at a time, into the front of 62 numbers.
 -- Assumes nothing.
 use Prim.Native.Nat.{ℕ, suc, _+_, _-_, _≤_, _<_}
 use mathlib.Core.Path.{_≡_, refl, ap, sym, _∙_}
@@ -53,7 +53,7 @@ collect-cons : (s : List ℕ) (vlan : ℕ) (before : List ℕ) (x : Tlv) (xs : L
 unfolding collect
 collect-cons s vlan before x xs b e = ap (λ (t : Bool). choose t (collect s vlan (before ++ (lowAt s x ∷ [])) xs) nobody) e
 
--- a member has a place among the 62
+-- a member is one of 62 at most
 pub member-room : (vlan n : ℕ) (x : Tlv) (id : ℕ) (there : Bool) → memberRight vlan n x id there ≡ true → n < 62
 unfolding memberRight
 member-room vlan n x id there e =
@@ -62,7 +62,7 @@ member-room vlan n x id there e =
     (and-left _ (eqb (x .size) (ruleOf (n + 1) .«member_width»))
     (and-left _ (eqb (groupType id) 0) (and-left _ (eqb (groupVlan id) vlan) (and-left _ (not there) e)))))
 
--- one more at the front of the 62 places
+-- one more at the front of the 62 numbers
 pad-set : (l : List ℕ) (n low : ℕ) → n < 62 → length l ≡ n → set (pad l) n low ≡ pad (l ++ (low ∷ []))
 unfolding pad
 pad-set l n low h e =
@@ -70,7 +70,7 @@ pad-set l n low h e =
     let p : length (l ++ (low ∷ [])) ≡ length l + 1 = length-append l (low ∷ []) in
     rw (q, p) (set-at l 0 _ low n e ∙ simp append-assoc)
 
--- a store after the last member: the members then, and that they stand at the front of the places
+-- a store after the last member: the members then, and that they stand at the front of the 62
 module _ (lows : List ℕ) (n low : ℕ) (room : n < 62) (all : length lows ≡ 62) where
   pub store-members : take (n + 1) (set lows n low) ≡ take n lows ++ (low ∷ [])
   store-members = rw add-one (take-suc-set lows n low (omega arith))
@@ -94,7 +94,7 @@ pub none-listed : (count : ℕ) (b : Bool) → record { right = false; lows = pa
 unfolding listed
 none-listed count b = rw (none-right count b)
 
--- Where the reading of a region stands: n members are at the front of the places, and the rest of the region decides
+-- Where the reading of a region stands: n members are at the front of the 62 numbers, and the rest of the region decides
 pub record Reading (s : List ℕ) (vlan : ℕ) (lows : List ℕ) (n at : ℕ) : Type 0 where
   pub inside : at ≤ length s
   pub reached : Reached s at

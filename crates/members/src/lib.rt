@@ -54,7 +54,7 @@ fn member_right(vlan: u16, n: usize, x: Tlv, id: u32, there: bool) -> bool
         & !there
 }
 
-// The members in a region, held to GROUP_COUNT.
+// The members in a region, compared with GROUP_COUNT.
 pub fn read(s: &[u8], vlan: u16, count: u64) -> Members
     ensures { λ r. ⌜ r ≡ listed count (membersIn (now (s .entry)) vlan) ⌝ }
 {

@@ -58,7 +58,7 @@ module _ (d : Registers) (ingress : ℕ) (groups : List GroupEntry) (group-vlan 
         let w = writing-sent (left (k + 1)) (rw e at (r .is)) b s in
         record { few = omega (arith, r .few, w .1); is = w .0 }
 
--- the copy of a group that was looked up by its ID
+-- the output of a group that was looked up by its ID
 pub output-is : (vlan id port pop : ℕ) (g : GroupEntry) → g .id ≡ id → port ≡ groupLow id → pop ≡ choose (g .«pop_vlan») 1 0
     → record { port = port; vlan = vlan; pop = pop } ≡ outputOf vlan g
 unfolding outputOf

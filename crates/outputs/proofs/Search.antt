@@ -1,4 +1,4 @@
--- A search up a list of entries: what stands before the place it has come to is below what is looked for.
+-- A search up a list of entries: what stands before the position it has come to is below what is looked for.
 -- Assumes nothing.
 use Prim.Native.Nat.{ℕ, _+_, _<_, _≤_}
 use mathlib.Core.Bool.{false}
@@ -22,7 +22,7 @@ abbrev pub noGroup : GroupEntry
 noGroup = record { id = 0; «pop_vlan» = false; «member_count» = 0; members = [] }
 
 module _ {A : Type 0} (key : A → ℕ) where
-  -- every key from `least` up is found from place j on, if at all
+  -- every key from `least` up is found from position j on, if at all
   pub record Passed (count : ℕ) (es : List A) (least j : ℕ) : Type 0 where
     pub is : (k : ℕ) → least ≤ k → find key k (take count es) ≡ find key k (drop j (take count es))
 

@@ -8,7 +8,7 @@ ghost use mathlib.Core.List.{[], _∷_};
 ghost use lib.Dec.{ltb, eqb};
 ghost use lib.ListN.{length};
 ghost use Rattle.rules.specs.Choose.{choose};
-ghost use Rattle.rules.specs.GroupId.{groupType, groupVlan, groupLow, memberId, hasMembers};
+ghost use Rattle.rules.specs.GroupId.{memberId};
 ghost use Rattle.rules.specs.Keyed.{find};
 ghost use Rattle.rules.specs.Registers.{isUp};
 ghost use Rattle.rules.specs.Tables.{liveGroups, idOf};

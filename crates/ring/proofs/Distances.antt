@@ -1,4 +1,4 @@
--- Distances on a ring: by the order of two places, and that each is below the size.
+-- Distances on a ring: by the order of two positions, and that each is below the size.
 -- Assumes nothing.
 use Prim.Native.Nat.{ℕ, _+_, _-_, _%_, _≤_, _<_}
 use mathlib.Core.Path.{_≡_, sym, _∙_}
@@ -7,7 +7,7 @@ use native.Mathlib.Nat.{mod-lt, mod-eq-of-lt, add-mod-right}
 use Rattle.rules.specs.declared.Ring.{Ring}
 use Rattle.rules.specs.Ring.{distance, outstanding, advance}
 
--- by the places of both: the second at or after the first, or before it
+-- by the positions of both: the second at or after the first, or before it
 module _ (size from to : ℕ) {a b : ℕ} (positive : 0 < size) (p : a ≡ to % size) (q : b ≡ from % size) where
   pub distance-ahead : b ≤ a → a - b ≡ distance size from to
   unfolding distance

@@ -2,7 +2,7 @@
 use rules::Answer;
 use rules::Ring;
 ghost use mathlib.Core.Path.{_≡_};
-ghost use mathlib.Core.Bool.{true, false};
+ghost use mathlib.Core.Bool.{false};
 ghost use Prim.Native.Nat.{_<_, _%_};
 ghost use lib.Dec.{ltb};
 ghost use Rattle.rules.specs.Choose.{choose};
@@ -111,7 +111,7 @@ pub fn write_size(r: Ring, v: u32) -> RingWritten
     accepted(next, false)
 }
 
-// A number's place on the ring. Only one that is not below the size, which no call leaves in HEAD or TAIL, costs a division.
+// A number modulo the size. Only one that is not below the size, which no call leaves in HEAD or TAIL, costs a division.
 fn place(size: u32, i: u32) -> u32
     requires { ⌜ 0 < size ⌝ }
     ensures { λ n. ⌜ n ≡ i % size ⌝ }
@@ -143,7 +143,7 @@ fn advance(r: Ring, new: u32) -> u64
     distance(r.size, r.head, new)
 }
 
-// Room for all that would then be outstanding: one slot less than the ring has.
+// All that would then be outstanding is at most one slot less than the ring has.
 fn head_allowed(r: Ring, new: u32) -> bool
     ensures { λ b. ⌜ b ≡ headAllowed r new ⌝ }
 {
@@ -195,7 +195,7 @@ fn next_slot(size: u32, i: u32) -> u32
     }
 }
 
-// A slot consumed. Process refuses at 65,536 credits, so one more fits; a ring that has them is left as it is.
+// The ring after a slot is completed. Process refuses at 65,536 credits, so one more fits; a ring that has them is left as it is.
 pub fn complete(r: Ring) -> Ring
     ensures { λ n. ⌜ n ≡ choose (ltb (r .credits) 65536) (completeEffect r) r ⌝ }
 {

@@ -104,7 +104,7 @@ pub record Output : Type 0 where
   pub vlan : ℕ
   pub pop : ℕ
 
--- the copy of a group of type 0: OUT_PPORT is the low bits of its ID
+-- the output of a group of type 0: OUT_PPORT is the low bits of its ID
 unfoldable pub outputOf : ℕ → GroupEntry → Output
 outputOf vlan g = record { port = groupLow (g .id); vlan = vlan; pop = choose (g .«pop_vlan») 1 0 }
 

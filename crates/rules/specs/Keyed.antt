@@ -7,12 +7,12 @@ use lib.Dec.{ltb, eqb}
 use Rattle.rules.specs.Choose.{choose}
 
 module _ {A : Type 0} (key : A → ℕ) where
-  -- how many entries stand before a key's place
+  -- the position of a key: how many entries at the front have a lower one
   unfoldable pub place : ℕ → List A → ℕ
   place k [] = 0
   place k (e ∷ es) = choose (ltb (key e) k) (suc (place k es)) 0
 
-  -- whether the key stands at its place
+  -- whether an entry at that position has the key
   unfoldable pub holds : ℕ → List A → Bool
   holds k [] = false
   holds k (e ∷ es) = choose (ltb (key e) k) (holds k es) (eqb (key e) k)

@@ -45,6 +45,6 @@ membersIn s vlan = choose (wellFormed s) (collect s vlan [] (tlvs s 0)) (record 
 unfoldable pub membersRight : ℕ → Collected → Bool
 membersRight count c = c .right && leb 1 count && leb count 62 && eqb (length (c .lows)) count
 
--- members at the front of 62 places, the rest 0
+-- members at the front of 62 numbers, the rest 0
 unfoldable pub pad : List ℕ → List ℕ
 pad l = l ++ replicate (62 - length l) 0

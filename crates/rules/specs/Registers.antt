@@ -14,7 +14,7 @@ use Rattle.rules.specs.declared.Located.the-variants.{Nowhere, Here}
 use Rattle.rules.specs.declared.Access.{Access}
 use Rattle.rules.specs.declared.Access.the-variants.{NotAllowed, Reserved, Whole, Lower, Upper}
 
--- The list of registers: where each starts. 0x0000 to 0x000f are two places of 8 bytes that read the same.
+-- The list of registers: where each starts. 0x0000 to 0x000f are twice 8 bytes that read the same.
 unfoldable pub registerAt : ℕ → Located
 registerAt offset =
     choose (eqb offset 0x0000) (Here Magic)

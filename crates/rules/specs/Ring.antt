@@ -73,7 +73,7 @@ ctrlEffect r v = choose (eqb (v % 2) 1) zeroRing r
 unfoldable pub nextSlot : ℕ → ℕ → ℕ
 nextSlot size i = choose (ltb (i + 1) size) (i + 1) 0
 
--- a slot consumed: "TAIL advances by one modulo SIZE, CREDITS rises by one"
+-- a slot completed: "TAIL advances by one modulo SIZE, CREDITS rises by one"
 unfoldable pub completeEffect : Ring → Ring
 completeEffect r =
     record { «base_addr» = r .«base_addr»; «base_latch» = r .«base_latch»; size = r .size; head = r .head; tail = nextSlot (r .size) (r .tail); credits = r .credits + 1 }

@@ -38,7 +38,7 @@ storedFlow f (Bridging v hm m hg id) =
 unfoldable pub flowEntry : Flow → FlowEntry
 flowEntry f = storedFlow f (f .matching)
 
--- a stored group, from its fields and the 62 places of its members
+-- a stored group, from its fields and the 62 numbers that its members stand in
 unfoldable pub groupEntry : Group → List ℕ → GroupEntry
 groupEntry g members =
     record { id = g .id; «pop_vlan» = g .«pop_vlan»; «member_count» = g .«member_count»; members = members }

@@ -246,7 +246,8 @@ pub struct Device {
 
 // ---- Calls
 
-// A call on a device, its numbers as they were handed in: a port of 2^32 + 4 is not port 4. What it borrows (guest memory, frame, journal buffer, list of outputs) stands beside it.
+// A call on a device, its numbers as they were handed in: a port of 2^32 + 4 is not port 4. What it borrows (guest memory, frame,
+// journal buffer, list of outputs) stands beside it.
 pub enum Request {
     Read { offset: u64, width: u64 },
     Write { offset: u64, width: u64, value: u64 },

@@ -1,4 +1,4 @@
--- Bytes written one after another, each that of its place in a word of digits.
+-- Bytes written one after another, each that of its position in a word of digits.
 -- Assumes nothing.
 use Prim.Native.Nat.{ℕ, _+_, _≤_, _<_}
 use mathlib.Core.Path.{_≡_, refl, _∙_}

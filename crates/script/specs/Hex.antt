@@ -28,6 +28,6 @@ pairOf h l = pick (ltb (digitOf h) 16) (pick (ltb (digitOf l) 16) (digitOf h * 1
 unfoldable pub byteOf : List ℕ → ℕ → ℕ
 byteOf s i = pick (ltb i (length s / 2)) (pairOf (getD s (2 * i) 0) (getD s (2 * i + 1) 0)) 0
 
--- bytes that are those of a word, each at its place
+-- bytes that are those of a word, each at its position
 unfoldable pub BytesOf : List ℕ → List ℕ → Type 0
 BytesOf s out = (i : ℕ) → i < length out → getD out i 0 ≡ byteOf s i

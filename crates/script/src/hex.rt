@@ -74,7 +74,7 @@ fn byte(s: &[u8], i: usize) -> u8
     0
 }
 
-// The bytes that a word stands for, as many as there is room for.
+// The bytes that a word stands for, as many as fit; 0 past the last.
 pub fn bytes(s: &[u8], out: &mut [u8])
     ensures { λ _. ⌜ BytesOf (now (s .entry)) (now (out .exit)) ⌝ }
 {

@@ -23,7 +23,7 @@ pub record Searching {A : Type 0} (key : A → ℕ) (slots k n count : ℕ) (es 
   pub holds-is : holds key k (take count es) ≡ holds key k (drop at (take count es))
   pub inside : n ≤ slots
 
--- The key's place among the live entries l, and whether it stands there
+-- The key's position among the live entries l, and whether it stands there
 pub record Sought {A : Type 0} (key : A → ℕ) (slots k n : ℕ) (l : List A) (at : ℕ) (held : Bool) : Type 0 where
   pub place-is : at ≡ place key k l
   pub holds-is : holds key k l ≡ held
@@ -31,7 +31,7 @@ pub record Sought {A : Type 0} (key : A → ℕ) (slots k n : ℕ) (l : List A) 
   pub inside : n ≤ slots
   pub within : at ≤ n
 
--- the live entries from a place on: the array's entry there, and the rest
+-- the live entries from a position on: the array's entry there, and the rest
 next : {A : Type 0} (count at : ℕ) (es : List A) (d : A) → at < length (take count es)
     → drop at (take count es) ≡ getD es at d ∷ drop (suc at) (take count es)
 next count at es d h =
@@ -91,7 +91,7 @@ held-lt {key = key} {k = k} {l = l} f h = omega (arith, f .place-is, f .live, ho
 -- ---- What a change of the array does to its live entries
 
 module _ {A : Type 0} (key : A → ℕ) {slots n at : ℕ} {held : Bool} (count : ℕ) where
-  -- the entries from the place on were shifted, and the free slot is filled
+  -- the entries from the position on were shifted, and the free slot is filled
   pub inserted : {i : ℕ} {es₀ es : List A} (e : A) → Sought key slots (key e) n (take count es₀) at held
       → Shifted slots at n n i es₀ es → i ≤ at → take (n + 1) (set es i e) ≡ insert key e (take count es₀)
   inserted {i} {es₀} {es} e f s h =
@@ -107,7 +107,7 @@ module _ {A : Type 0} (key : A → ℕ) {slots n at : ℕ} {held : Bool} (count 
       take-set-lt count es at e (omega (arith, f .live, length-take count es))
       ∙ rw (f .place-is) (sym (replace-at key e (take count es) (f .holds-is ∙ h)))
 
-  -- the entries after the place were shifted, and the free slot stays behind them
+  -- the entries after the position were shifted, and the free slot stays behind them
   pub removed : {k i last : ℕ} {es₀ es : List A} → Sought key slots k n (take count es₀) at held → held ≡ true → last ≡ n - 1
       → Shifted slots at last at i es₀ es → last ≤ i → take last es ≡ remove key k (take count es₀)
   removed {k} {i} {last} {es₀} {es} f h m s g =

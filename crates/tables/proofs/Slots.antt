@@ -1,4 +1,4 @@
--- An array with one free entry slot, which moves: what shifting entries does, and the rules by place.
+-- An array with one free entry slot, which moves: what shifting entries does, and the rules by position.
 -- Assumes nothing.
 use Prim.Native.Nat.{ℕ, suc, zero, _+_, _-_, _<_, _≤_}
 use mathlib.Core.Bool.{true}
@@ -11,13 +11,13 @@ use Rattle.rules.specs.Keyed.{place, holds, insert, replace, remove}
 use Rattle.rules.proofs.Cases.{by-lt, by-order, not-both}
 
 module _ {A : Type 0} where
-  -- an entry put in at a place, the rest moved up
+  -- an entry put in at a position, the rest moved up
   abbrev pub insertAt : ℕ → A → List A → List A
   insertAt zero a l = a ∷ l
   insertAt (suc i) a [] = a ∷ []
   insertAt (suc i) a (x ∷ l) = x ∷ insertAt i a l
 
-  -- the list without the place i
+  -- the list without its entry at i
   abbrev pub without : ℕ → List A → List A
   without i [] = []
   without zero (x ∷ l) = l
@@ -95,7 +95,7 @@ module _ {A : Type 0} {slots lo hi p : ℕ} {es₀ : List A} where
         rest = rw add-one (move-up i d es (omega arith)) ∙ s .rest;
       }
 
--- ---- The rules by place
+-- ---- The rules by position
 
 module _ {A : Type 0} (key : A → ℕ) where
   -- a key that is held stands at one of the entries

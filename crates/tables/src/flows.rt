@@ -36,7 +36,7 @@ pub fn fresh_flows() -> FlowTable
     }
 }
 
-// A flow put in at its cookie's place, those from there on moved up.
+// A flow put in before the first that has a higher cookie, those from there on moved up.
 pub fn flow_add(t: FlowTable, e: FlowEntry) -> FlowChange
     ensures { λ r. ⌜ Changed liveFlows t (addStatus cookieOf 256 (e .cookie) (liveFlows t)) (insert cookieOf e (liveFlows t)) (r .status) (r .table) ⌝ }
 {

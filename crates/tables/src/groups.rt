@@ -26,7 +26,7 @@ pub fn fresh_groups() -> GroupTable
     }
 }
 
-// A group put in at its ID's place, those from there on moved up.
+// A group put in before the first that has a higher ID, those from there on moved up.
 pub fn group_add(t: GroupTable, e: GroupEntry) -> GroupChange
     ensures { λ r. ⌜ Changed liveGroups t (addStatus idOf 128 (e .id) (liveGroups t)) (insert idOf e (liveGroups t)) (r .status) (r .table) ⌝ }
 {

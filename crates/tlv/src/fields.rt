@@ -59,7 +59,7 @@ const FLOW_ANY: u8 = FLOW_0 | FLOW_10 | FLOW_50;
 
 const GROUP_ANY: u8 = GROUP_0 | GROUP_MANY | GROUP_DEL;
 
-// The rows of the table. Types 1 to 62 are also those of the members in GROUP_IDS.
+// The rows of the table. Types 1 to 62 are also those of the members in GROUP_IDS, which have this width.
 const MEMBER: u8 = 4;
 
 const UNLISTED: FieldRule = FieldRule {
@@ -249,7 +249,7 @@ const FIELDS: [FieldRule; 63] = [
     UNLISTED,
 ];
 
-// The rows, for whoever goes over them: where a constant array is read at a place that is not known, it is built first.
+// The rows, for whoever goes over them: a constant array that is read at a computed index is built anew for each read.
 fn table() -> [FieldRule; 63]
     ensures { λ r. ⌜ ((t : ℕ) (d : FieldRule) → t < 63 → getD r t d ≡ ruleOf t) ⌝ }
 {

@@ -74,7 +74,7 @@ module _ {M : Type 1} (𝓤 : URA M) (H : Heap 𝓤) (A : Atoms 𝓤) (W : Given
   abbrev Post : Val → SProp 𝓤
   Post = walkOf 𝓤 H A f.ended stayed (f.clauses 𝓤 H A at-mem rn) .post (((κ0, tt), (q0, tt), tt, a, vals), tt)
 
-  -- what `make`'s triple binds outside: what is lent, at its own lifetimes, shares and names
+  -- what `make`'s triple binds outside: the other borrows, at their own lifetimes, shares and names
   abbrev passed : Device × (ℕ × (ℕ × Unit {0}))
   passed = (h, (ports, (id, tt)))
 

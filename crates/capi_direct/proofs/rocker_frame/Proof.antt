@@ -1,5 +1,5 @@
 -- `capi_direct::rocker_frame` meets its contract: a walk of its MIR, written by walks.py. The device behind the shared borrow is copied, and `frame_outputs` is
--- called with the copy and with what is lent, which is given up for good.
+-- called with the copy and with the other borrows, which are given up for good.
 -- All that the walk knows of `frame_outputs` is that it meets its contract. Assumes nothing.
 use mathlib.Core.Path.{_≡_, refl}
 use Prim.Native.Nat.{ℕ, _<_, _^_}
@@ -64,7 +64,7 @@ abbrev Callee : {M : Type 1} (𝓤 : URA M) (H : Heap 𝓤) (A : Atoms 𝓤) (at
 Callee 𝓤 H A at-mem rn = tripleOf 𝓤 H A g.signature (g.spec 𝓤 H A at-mem rn)
 
 module _ {M : Type 1} (𝓤 : URA M) (H : Heap 𝓤) (A : Atoms 𝓤) (W : Given 𝓤 H A) (at-mem : Memory → SProp 𝓤) (rn : Routine → Fun 𝓤) (κ0 κ1 κ2 κ3 : Lft) (q0 q1 q2 q3 : Share) (b o : ℕ) (γ : GName) (h : Device) (port : ℕ) (port-fits : port < 2 ^ 64) (b-bytes o-bytes : ℕ) (γ-bytes : GName) (bytes : List ℕ) (b-list o-list : ℕ) (γ-list : GName) (list : List ℕ) (b-outputs o-outputs : ℕ) (γ-outputs : GName) (outputs : ℕ) where
-  -- what is lent, and its machine values
+  -- the other borrows, and their machine values
   abbrev x-bytes : RefT (List ℕ)
   x-bytes = record { ptr = (b-bytes, o-bytes); name = γ-bytes; now = bytes }
 
@@ -92,7 +92,7 @@ module _ {M : Type 1} (𝓤 : URA M) (H : Heap 𝓤) (A : Atoms 𝓤) (W : Given
   abbrev Post : Val → SProp 𝓤
   Post = walkOf 𝓤 H A f.ended stayed (f.clauses 𝓤 H A at-mem rn) .post (((κ0, (κ1, (κ2, (κ3, tt)))), (q0, (q1, (q2, (q3, tt)))), tt, a, vals), tt)
 
-  -- what `frame_outputs`'s triple binds outside: what is lent, at its own lifetimes, shares and names
+  -- what `frame_outputs`'s triple binds outside: the other borrows, at their own lifetimes, shares and names
   abbrev passed : Device × (ℕ × (RefT (List ℕ) × (RefT (List ℕ) × (RefT ℕ × Unit {0}))))
   passed = (h, (port, (x-bytes, (x-list, (x-outputs, tt)))))
 

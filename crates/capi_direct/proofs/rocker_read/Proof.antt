@@ -1,5 +1,5 @@
 -- `capi_direct::rocker_read` meets its contract: a walk of its MIR, written by walks.py. The device behind the shared borrow is copied, and `read_register` is
--- called with the copy and with what is lent, which is given up for good.
+-- called with the copy and with the other borrows, which are given up for good.
 -- All that the walk knows of `read_register` is that it meets its contract. Assumes nothing.
 use mathlib.Core.Path.{refl}
 use Prim.Native.Nat.{ℕ, _<_, _^_}
@@ -60,7 +60,7 @@ abbrev Callee : {M : Type 1} (𝓤 : URA M) (H : Heap 𝓤) (A : Atoms 𝓤) (at
 Callee 𝓤 H A at-mem rn = tripleOf 𝓤 H A g.signature (g.spec 𝓤 H A at-mem rn)
 
 module _ {M : Type 1} (𝓤 : URA M) (H : Heap 𝓤) (A : Atoms 𝓤) (W : Given 𝓤 H A) (at-mem : Memory → SProp 𝓤) (rn : Routine → Fun 𝓤) (κ0 κ1 : Lft) (q0 q1 : Share) (b o : ℕ) (γ : GName) (h : Device) (offset : ℕ) (offset-fits : offset < 2 ^ 64) (width : ℕ) (width-fits : width < 2 ^ 64) (b-value o-value : ℕ) (γ-value : GName) (value : ℕ) where
-  -- what is lent, and its machine values
+  -- the other borrows, and their machine values
   abbrev x-value : RefT ℕ
   x-value = record { ptr = (b-value, o-value); name = γ-value; now = value }
 
@@ -76,7 +76,7 @@ module _ {M : Type 1} (𝓤 : URA M) (H : Heap 𝓤) (A : Atoms 𝓤) (W : Given
   abbrev Post : Val → SProp 𝓤
   Post = walkOf 𝓤 H A f.ended stayed (f.clauses 𝓤 H A at-mem rn) .post (((κ0, (κ1, tt)), (q0, (q1, tt)), tt, a, vals), tt)
 
-  -- what `read_register`'s triple binds outside: what is lent, at its own lifetimes, shares and names
+  -- what `read_register`'s triple binds outside: the other borrows, at their own lifetimes, shares and names
   abbrev passed : Device × (ℕ × (ℕ × (RefT ℕ × Unit {0})))
   passed = (h, (offset, (width, (x-value, tt))))
 

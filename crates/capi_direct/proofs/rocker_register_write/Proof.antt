@@ -76,7 +76,7 @@ module _ {M : Type 1} (𝓤 : URA M) (H : Heap 𝓤) (A : Atoms 𝓤) (W : Given
   abbrev Post : Val → SProp 𝓤
   Post = walkOf 𝓤 H A f.ended stayed (f.clauses 𝓤 H A at-mem rn) .post (((κ0, tt), (q0, tt), tt, a, vals), tt)
 
-  -- what `write_register`'s triple binds outside: what is lent, at its own lifetimes, shares and names
+  -- what `write_register`'s triple binds outside: the other borrows, at their own lifetimes, shares and names
   abbrev passed : Device × (ℕ × (ℕ × (ℕ × Unit {0})))
   passed = (h, (offset, (width, (value, tt))))
 

@@ -1,5 +1,5 @@
 -- `tables::groups::group_add` meets its contract. The search passes entries with lower keys; the shift moves the free entry slot
--- from behind the live entries down to the key's place.
+-- from behind the live entries down to the key's position.
 -- Assumes nothing.
 use Prim.Native.Nat.{_-_}
 use mathlib.Core.Logic.{⊎-elim}
@@ -45,7 +45,7 @@ loop-less c = search needs
 loop-again : tie.Need-loop-again Inv-loop μ-loop Inv-loop2 μ-loop2
 loop-again c = pass idOf (c .before .before .before .before .loop .inv) _ (c .before .before .before .loop-test .taken) (c .if1 .left)
 
--- the key's place, and whether it stands there
+-- the key's position, and whether it stands there
 found : (c : tie.Left-loop Inv-loop μ-loop Inv-loop2 μ-loop2)
     → Sought idOf 128 (c .before .before .before .before .args .e .id) (c .before .before .least .result) (liveGroups (c .before .before .before .before .args .t)) (c .before .loop .at) (c .loop-test .held)
 unfolding liveGroups
