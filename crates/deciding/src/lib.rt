@@ -1,7 +1,6 @@
 // The flow that decides in each table, and a frame's way through the tables.
 use rules::FlowEntry;
 use rules::FlowTable;
-ghost use Prim.Native.Nat.{min};
 ghost use mathlib.Core.Path.{_≡_};
 ghost use mathlib.Core.Bool.{false};
 ghost use Rattle.rules.specs.Frame.{matches0 as Frame·matches0, matches10 as Frame·matches10, matches50 as Frame·matches50, beats as Frame·beats};
@@ -105,13 +104,6 @@ fn vlan_after(table: u16, vlan: u16, new_vlan_id: u16) -> u16
     }
 }
 
-// How many entries are live: a count beyond the entry slots counts as all of them.
-pub fn live(count: usize, slots: usize) -> usize
-    ensures { λ r. ⌜ r ≡ min count slots ⌝ }
-{
-    if count < slots { count } else { slots }
-}
-
 fn dropped() -> WayOut
     ensures { λ r. ⌜ r .found ≡ false ⌝ }
 {
@@ -127,7 +119,7 @@ fn dropped() -> WayOut
 pub fn way(flows: FlowTable, port: u32, vlan: u16, mac: u64) -> WayOut
     ensures { λ r. ⌜ exitIn r ≡ wayFrom (liveFlows flows) port mac 0 vlan ⌝ }
 {
-    let n = live(flows.count, 256);
+    let n = wire::least(flows.count, 256);
     let mut table = 0;
     let mut tag = vlan;
     loop {

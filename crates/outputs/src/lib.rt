@@ -90,7 +90,7 @@ fn no_members() -> Members
 fn members_in(groups: GroupTable, id: u32) -> Members
     ensures { λ r. ⌜ lowsIn r ≡ membersFound (find idOf id (liveGroups groups)) ⌝ }
 {
-    let n = deciding::live(groups.count, 128);
+    let n = wire::least(groups.count, 128);
     let mut i: usize = 0;
     while i < n {
         let g = groups.entries[i];
@@ -152,8 +152,8 @@ fn resolve(
     requires { ⌜ («group_vlan» < 4096) × (186 ≤ length (now list)) ⌝ }
     ensures { λ r. ⌜ Lists (keep d ingress (memberOutputs (liveGroups groups) «group_vlan» vlan (lowsIn m))) r (now (list .entry)) (now (list .exit)) ⌝ }
 {
-    let n = deciding::live(groups.count, 128);
-    let size = deciding::live(m.count, 62);
+    let n = wire::least(groups.count, 128);
+    let size = wire::least(m.count, 62);
     let mut k: usize = 0;
     let mut out: usize = 0;
     let mut j: usize = 0;

@@ -1,7 +1,6 @@
 // The flow table. A command searches and changes one copy of the entries and has one exit, since copies cost the
 // most.
 use crate::FlowChange;
-use crate::least;
 use rules::FlowEntry;
 use rules::FlowTable;
 use rules::Status;
@@ -42,7 +41,7 @@ pub fn flow_add(t: FlowTable, e: FlowEntry) -> FlowChange
 {
     let mut entries = t.entries;
     let mut count = t.count;
-    let n = least(t.count, 256);
+    let n = wire::least(t.count, 256);
     let key = e.cookie;
     let mut at: usize = 0;
     let mut held = false;
@@ -84,7 +83,7 @@ pub fn flow_mod(t: FlowTable, e: FlowEntry) -> FlowChange
     ensures { λ r. ⌜ Changed liveFlows t (heldStatus cookieOf (e .cookie) (liveFlows t)) (replace cookieOf e (liveFlows t)) (r .status) (r .table) ⌝ }
 {
     let mut entries = t.entries;
-    let n = least(t.count, 256);
+    let n = wire::least(t.count, 256);
     let key = e.cookie;
     let mut at: usize = 0;
     let mut held = false;
@@ -116,7 +115,7 @@ pub fn flow_del(t: FlowTable, cookie: u64) -> FlowChange
 {
     let mut entries = t.entries;
     let mut count = t.count;
-    let n = least(t.count, 256);
+    let n = wire::least(t.count, 256);
     let mut at: usize = 0;
     let mut held = false;
     while at < n {

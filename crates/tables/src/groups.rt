@@ -1,7 +1,6 @@
 // The group table. A command searches and changes one copy of the entries and has one exit, since copies cost the
 // most.
 use crate::GroupChange;
-use crate::least;
 use rules::GroupEntry;
 use rules::GroupTable;
 use rules::Status;
@@ -32,7 +31,7 @@ pub fn group_add(t: GroupTable, e: GroupEntry) -> GroupChange
 {
     let mut entries = t.entries;
     let mut count = t.count;
-    let n = least(t.count, 128);
+    let n = wire::least(t.count, 128);
     let key = e.id;
     let mut at: usize = 0;
     let mut held = false;
@@ -74,7 +73,7 @@ pub fn group_mod(t: GroupTable, e: GroupEntry) -> GroupChange
     ensures { λ r. ⌜ Changed liveGroups t (heldStatus idOf (e .id) (liveGroups t)) (replace idOf e (liveGroups t)) (r .status) (r .table) ⌝ }
 {
     let mut entries = t.entries;
-    let n = least(t.count, 128);
+    let n = wire::least(t.count, 128);
     let key = e.id;
     let mut at: usize = 0;
     let mut held = false;
@@ -106,7 +105,7 @@ pub fn group_del(t: GroupTable, id: u32) -> GroupChange
 {
     let mut entries = t.entries;
     let mut count = t.count;
-    let n = least(t.count, 128);
+    let n = wire::least(t.count, 128);
     let mut at: usize = 0;
     let mut held = false;
     while at < n {

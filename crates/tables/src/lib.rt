@@ -2,8 +2,6 @@
 use rules::FlowTable;
 use rules::GroupTable;
 use rules::Status;
-ghost use mathlib.Core.Path.{_≡_};
-ghost use Prim.Native.Nat.{min};
 
 mod flows;
 mod groups;
@@ -28,9 +26,3 @@ pub struct GroupChange {
     pub table: GroupTable,
 }
 
-// How many entries are live: a count beyond the entry slots counts as all of them.
-fn least(count: usize, slots: usize) -> usize
-    ensures { λ r. ⌜ r ≡ min count slots ⌝ }
-{
-    if count < slots { count } else { slots }
-}

@@ -11,7 +11,8 @@ fn wide(b: u8) -> u64
     b as u64
 }
 
-fn least(a: usize, b: usize) -> usize
+// The smaller of two numbers: a count beyond what there is counts as all of it.
+pub fn least(a: usize, b: usize) -> usize
     ensures { λ r. ⌜ r ≡ min a b ⌝ }
 {
     if a < b { a } else { b }

@@ -26,14 +26,14 @@ Inv-loop port vlan mac flows n table₀ tag₀ table tag =
 abbrev μ-loop : tie.MeasureT-loop
 μ-loop port vlan mac flows n table₀ tag₀ table tag = tablesAfter table
 
-live-requires : tie.Need-live-requires Inv-loop2 μ-loop2 Inv-loop μ-loop
-live-requires c κs = search needs
+least-requires : tie.Need-least-requires Inv-loop2 μ-loop2 Inv-loop μ-loop
+least-requires c κs = search needs
 
 loop-holds : tie.Need-loop-holds Inv-loop2 μ-loop2 Inv-loop μ-loop
 unfolding liveFlows
 loop-holds c =
     let l : length (c .before .args .t1 .entries) ≡ 256 = search (needs, length-mapped) in
-    (live-length (c .live .result) (c .before .args .t1 .count) 256 (c .before .args .t1 .entries) (c .live .ensures) l, omega arith, refl)
+    (live-length (c .least .result) (c .before .args .t1 .count) 256 (c .before .args .t1 .entries) (c .least .ensures) l, omega arith, refl)
 
 loop2-holds : tie.Need-loop2-holds Inv-loop2 μ-loop2 Inv-loop μ-loop
 unfolding liveFlows
@@ -160,7 +160,7 @@ way-spec =
     μ-loop2
     Inv-loop
     μ-loop
-    live-requires
+    least-requires
     loop-holds
     loop2-holds
     sub-i

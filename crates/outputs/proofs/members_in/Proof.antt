@@ -16,14 +16,14 @@ Inv-loop id groups n i₀ i = (i ≤ n) × (n ≡ length (liveGroups groups)) ×
 abbrev μ-loop : tie.MeasureT-loop
 μ-loop id groups n i₀ i = n - i
 
-live-requires : tie.Need-live-requires Inv-loop μ-loop
-live-requires c κs = search needs
+least-requires : tie.Need-least-requires Inv-loop μ-loop
+least-requires c κs = search needs
 
 loop-holds : tie.Need-loop-holds Inv-loop μ-loop
 unfolding liveGroups
 loop-holds c =
     let l : length (c .before .args .t1 .entries) ≡ 128 = search (needs, length-mapped) in
-    (omega arith, live-length (c .live .result) (c .before .args .t1 .count) 128 (c .before .args .t1 .entries) (c .live .ensures) l, omega arith, passed-none idOf _ _ _)
+    (omega arith, live-length (c .least .result) (c .before .args .t1 .count) 128 (c .before .args .t1 .entries) (c .least .ensures) l, omega arith, passed-none idOf _ _ _)
 
 mul-g : tie.Need-mul-g Inv-loop μ-loop
 mul-g c = search needs
@@ -77,7 +77,7 @@ members-in-spec =
     (tie.spec
     Inv-loop
     μ-loop
-    live-requires
+    least-requires
     loop-holds
     mul-g
     element-copy-out-g

@@ -27,11 +27,11 @@ Inv-loop d ingress vlan group-vlan list₀ groups m n size k₀ out₀ j₀ last
 abbrev μ-loop : tie.MeasureT-loop
 μ-loop d ingress vlan group-vlan list₀ groups m n size k₀ out₀ j₀ last₀ list k out j last = size - k
 
-live-requires : tie.Need-live-requires Inv-loop2 μ-loop2 Inv-loop μ-loop
-live-requires c κs = search needs
+least-requires : tie.Need-least-requires Inv-loop2 μ-loop2 Inv-loop μ-loop
+least-requires c κs = search needs
 
-live-requires-2 : tie.Need-live-requires-2 Inv-loop2 μ-loop2 Inv-loop μ-loop
-live-requires-2 c κs = search needs
+least-requires-2 : tie.Need-least-requires-2 Inv-loop2 μ-loop2 Inv-loop μ-loop
+least-requires-2 c κs = search needs
 
 loop-holds : tie.Need-loop-holds Inv-loop2 μ-loop2 Inv-loop μ-loop
 unfolding liveGroups lowsIn
@@ -41,10 +41,10 @@ loop-holds c =
     let k : length (a .t6 .lows) ≡ 62 = search needs in (
       omega arith,
       omega arith,
-      live-length (c .live2 .result) (a .t6 .count) 62 (a .t6 .lows) (c .live2 .ensures) k,
+      live-length (c .least2 .result) (a .t6 .count) 62 (a .t6 .lows) (c .least2 .ensures) k,
       omega arith,
       omega arith,
-      live-length (c .before .live .result) (a .t2 .count) 128 (a .t2 .entries) (c .before .live .ensures) l,
+      live-length (c .before .least .result) (a .t2 .count) 128 (a .t2 .entries) (c .before .least .ensures) l,
       passed-none idOf _ _ _,
       resolved-none _ _ _ _ _ _ _ _,
     )
@@ -187,8 +187,8 @@ resolve-spec =
     μ-loop2
     Inv-loop
     μ-loop
-    live-requires
-    live-requires-2
+    least-requires
+    least-requires-2
     loop-holds
     mul-member-id
     element-copy-out-member-id
