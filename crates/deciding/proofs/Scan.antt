@@ -14,7 +14,7 @@ use Rattle.rules.specs.Tables.{freeFlow}
 use Rattle.rules.specs.declared.FlowEntry.{FlowEntry}
 use Rattle.rules.proofs.Cases.{not-both}
 use Rattle.deciding.specs.Way.{isTaken}
-use Rattle.deciding.proofs.Arrays.{live-at}
+use Rattle.rules.proofs.Arrays.{live-at}
 
 -- the rule's cases, on plain values: e is the next flow, b what was found
 module _ (m : FlowEntry → Bool) (e b : FlowEntry) where

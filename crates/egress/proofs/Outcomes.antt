@@ -1,16 +1,14 @@
 -- The outcome of a frame call, case by case.
 -- Assumes nothing.
 use Prim.Native.Nat.{ℕ, _<_, _≤_}
-use mathlib.Core.Bool.{true, false, _&&_}
+use mathlib.Core.Bool.{true, false}
 use mathlib.Core.Option.{Option}
 use mathlib.Core.Path.{_≡_, sym}
 use mathlib.Core.List.{List, []}
-use native.Mathlib.Omega.{arith}
 use lib.ListN.{length}
-use lib.Dec.{leb}
-use borrow.Author.Tests.{lt-ltb, le-ltb, leb-true}
+use borrow.Author.Tests.{lt-ltb, le-ltb}
 use Rattle.rules.specs.Answers.{number}
-use Rattle.rules.specs.Registers.{portCountAllowed, portAllowed, isUp}
+use Rattle.rules.specs.Registers.{portAllowed, isUp}
 use Rattle.rules.specs.Keyed.{find}
 use Rattle.rules.specs.Tables.{Tables, idOf}
 use Rattle.rules.specs.Frame.{Exit, foundOutputs, isFrame, way, exitOutputs, keep, outputs, frameRefusal}
@@ -19,7 +17,6 @@ use Rattle.rules.specs.declared.GroupEntry.{GroupEntry}
 use Rattle.deciding.specs.Way.{exitIn}
 use Rattle.deciding.specs.declared.WayOut.{WayOut}
 use Rattle.rules.specs.declared.Answer.the-variants.{Done, PortNotAllowed, NotAFrame, ListShort}
-use Rattle.rules.proofs.Cases.{and-left, and-right}
 use Rattle.outputs.specs.Outputs.{Lists}
 use Rattle.egress.specs.Outcome.{Outcome}
 use Rattle.outputs.proofs.Writing.{lists-none}
@@ -59,15 +56,6 @@ module _ (d : Registers) (t : Tables) (port : ℕ) (f before : List ℕ) where
             → Outcome d t port f before (record { answer = Done; outputs = n }) after
         unfolding outputs
         port-up u l = done (simp u l)
-
--- a port that is allowed is a small number
-pub port-small : (d : Registers) (port : ℕ) → portAllowed d port ≡ true → port ≤ 62
-unfolding portAllowed portCountAllowed
-port-small d port e =
-    let count = and-left (leb 1 (d .ports) && leb (d .ports) 62) (leb 1 port) (and-left (leb 1 (d .ports) && leb (d .ports) 62 && leb 1 port) (leb port (d .ports)) e) in
-    let h = leb-true port (d .ports) (and-right (leb 1 (d .ports) && leb (d .ports) 62 && leb 1 port) (leb port (d .ports)) e) in
-    let k = leb-true (d .ports) 62 (and-right (leb 1 (d .ports)) (leb (d .ports) 62) count) in
-    omega arith
 
 -- a way out, by whether there is one
 module _ (groups : List GroupEntry) (w : WayOut) (r : Option Exit) (e : exitIn w ≡ r) where

@@ -89,11 +89,6 @@ none-right count true =
     (λ h p. simp p)
 none-right count false = refl
 
--- no members, however that came about
-pub none-listed : (count : ℕ) (b : Bool) → record { right = false; lows = pad [] } ≡ listed count (record { right = b; lows = [] })
-unfolding listed
-none-listed count b = rw (none-right count b)
-
 -- Where the reading of a region stands: n members are at the front of the 62 numbers, and the rest of the region decides
 pub record Reading (s : List ℕ) (vlan : ℕ) (lows : List ℕ) (n at : ℕ) : Type 0 where
   pub inside : at ≤ length s

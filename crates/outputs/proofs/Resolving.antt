@@ -15,7 +15,7 @@ use Rattle.rules.specs.Tables.{idOf}
 use Rattle.rules.specs.Frame.{Output, outputOf, outputIf, memberOutputs, keep}
 use Rattle.rules.specs.declared.Registers.{Registers}
 use Rattle.rules.specs.declared.GroupEntry.{GroupEntry}
-use Rattle.deciding.proofs.Arrays.{live-at}
+use Rattle.rules.proofs.Arrays.{live-at}
 use Rattle.outputs.specs.Outputs.{Sends, Lists}
 use Rattle.outputs.proofs.Writing.{Writing, writing-starts, writing-sent, writing-ends}
 

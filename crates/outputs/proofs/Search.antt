@@ -15,7 +15,7 @@ use Rattle.rules.specs.Choose.{choose}
 use Rattle.rules.specs.Keyed.{find}
 use Rattle.rules.specs.declared.GroupEntry.{GroupEntry}
 use Rattle.rules.proofs.Cases.{by-lt, gt-eqb}
-use Rattle.deciding.proofs.Arrays.{live-at}
+use Rattle.rules.proofs.Arrays.{live-at}
 
 -- what code reads past the end of an array of groups
 abbrev pub noGroup : GroupEntry

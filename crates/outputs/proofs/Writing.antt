@@ -3,15 +3,15 @@
 use Prim.Native.Nat.{ℕ, suc, _+_, _*_, _<_, _≤_}
 use mathlib.Core.Bool.{true, false}
 use mathlib.Core.Path.{_≡_, refl, sym, _∙_}
-use mathlib.Core.List.{List, [], _∷_, append-assoc}
+use mathlib.Core.List.{List, [], _∷_}
 use native.Mathlib.Omega.{arith}
 use native.Mathlib.Numerals.{add-one}
-use lib.ListN.{length, set, length-set, take-append-drop}
-use lib.Seq.{take-suc-set, drop-set-lt}
+use lib.ListN.{length, set, length-set}
 use borrow.Author.Tests.{lt-ltb, le-ltb}
 use Rattle.rules.specs.Bytes.{splice}
 use Rattle.rules.specs.Frame.{Output, isKept, keep, numbersOf, listAfter}
 use Rattle.rules.specs.declared.Registers.{Registers}
+use Rattle.rules.proofs.Bytes.{splice-cons, splice-nil}
 use Rattle.rules.proofs.Cases.{by-test}
 use Rattle.outputs.specs.Outputs.{withOutput, withRoom, Sends, Lists}
 
@@ -26,14 +26,7 @@ sends-not d ingress o n before k = record { count = simp k; list = simp k }
 -- ---- A number of a splice
 
 splice-next : (at x : ℕ) (xs l : List ℕ) → at < length l → splice at (x ∷ xs) l ≡ splice (at + 1) xs (set l at x)
-unfolding splice
-splice-next at x xs l h =
-    let e : at + suc (length xs) ≡ suc at + length xs = omega arith in
-    rw (add-one, take-suc-set l at x h, drop-set-lt (suc at + length xs) l at x (omega arith), e, append-assoc) refl
-
-splice-none : (at : ℕ) (l : List ℕ) → splice at [] l ≡ l
-unfolding splice
-splice-none at l = let e : at + 0 ≡ at = omega arith in rw e (take-append-drop at l)
+splice-next at x xs l h = rw add-one (splice-cons at x xs l h)
 
 splice-three : (at x y z : ℕ) (xs l : List ℕ) → at + 2 < length l
     → splice at (x ∷ y ∷ z ∷ xs) l ≡ splice (at + 3) xs (set (set (set l at x) (at + 1) y) (at + 2) z)
@@ -64,7 +57,7 @@ writing-starts os l₀ = record { counted = omega arith; listed = refl; sized = 
 
 pub writing-ends : {os : List Output} {l₀ : List ℕ} {n : ℕ} {l : List ℕ} → Writing os l₀ [] n l → Lists os n l₀ l
 unfolding numbersOf
-writing-ends {n = n} {l = l} w = record { count = omega arith; list = sym (splice-none (3 * n) l) ∙ w .listed }
+writing-ends {n = n} {l = l} w = record { count = omega arith; list = sym (splice-nil (3 * n) l) ∙ w .listed }
 
 written : {os : List Output} {l₀ : List ℕ} {o : Output} {rest : List Output} {n : ℕ} {l : List ℕ}
     → Writing os l₀ (o ∷ rest) n l → 3 * n + 2 < length l → Writing os l₀ rest (n + 1) (withOutput o n l)
@@ -89,7 +82,7 @@ writing-sent {d} {ingress} {os} {l₀} {o} rest {n} {r} {l} {l′} w h s =
 -- nothing to write
 pub lists-none : (l : List ℕ) → Lists [] 0 l l
 unfolding listAfter numbersOf
-lists-none l = record { count = refl; list = sym (splice-none 0 l) }
+lists-none l = record { count = refl; list = sym (splice-nil 0 l) }
 
 pub no-room : (os : List Output) (l : List ℕ) → length l < 186 → Lists (withRoom l os) 0 l l
 unfolding withRoom

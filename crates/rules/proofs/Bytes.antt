@@ -60,10 +60,6 @@ two-front v t h =
 
 -- ---- A list written over a slice
 
-pub length-splice : (at : ℕ) (new s : List ℕ) → at + length new ≤ length s → length (splice at new s) ≡ length s
-unfolding splice
-length-splice at new s h = simp (length-append, length-take, length-drop) (omega arith)
-
 -- element by element
 pub splice-cons : (at b : ℕ) (new s : List ℕ) → at < length s → splice at (b ∷ new) s ≡ splice (suc at) new (set s at b)
 unfolding splice

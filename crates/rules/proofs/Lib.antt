@@ -1,5 +1,6 @@
 -- Laws of the definitions of specs/, for whoever proves code against them; and the points of document 01.
 pub mod Cases
+pub mod Arrays
 pub mod Bytes
 pub mod Region
 pub mod FieldTable

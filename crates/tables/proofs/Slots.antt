@@ -132,7 +132,3 @@ pub take-live : {A : Type 0} (count : ℕ) (es : List A) → take (length (take 
 take-live zero es = refl
 take-live (suc c) [] = refl
 take-live {A} (suc c) (x ∷ es) = ap {B = List A} (λ r. x ∷ r) (take-live c es)
-
--- an array of structs in a struct has its length: what `search needs` lacks for elements that are no numbers
-pub length-mapped : (X Y : Type 0) (f : X → Y) (l : List X) (n : ℕ) → length (map f l) ≡ n → length l ≡ n
-length-mapped X Y f l n p = sym (length-map l f) ∙ p

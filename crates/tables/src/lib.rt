@@ -25,4 +25,3 @@ pub struct GroupChange {
     pub status: Status,
     pub table: GroupTable,
 }
-

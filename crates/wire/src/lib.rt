@@ -102,15 +102,3 @@ pub fn put16(s: &mut [u8], at: usize, v: u16)
 {
     put(s, at, 2, v as u64);
 }
-
-pub fn put32(s: &mut [u8], at: usize, v: u32)
-    ensures { λ _. ⌜ now (s .exit) ≡ Put·put at 4 v (now (s .entry)) ⌝ }
-{
-    put(s, at, 4, v as u64);
-}
-
-pub fn put64(s: &mut [u8], at: usize, v: u64)
-    ensures { λ _. ⌜ now (s .exit) ≡ Put·put at 8 v (now (s .entry)) ⌝ }
-{
-    put(s, at, 8, v);
-}

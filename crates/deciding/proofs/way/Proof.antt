@@ -4,7 +4,7 @@ use lib.ListN.{length, getD}
 use borrow.Author.Tests.{not-true, not-false}
 use Rattle.rules.specs.Tables.{liveFlows, freeFlow}
 use Rattle.deciding.specs.Way.{matchesIn, wayFrom, exitIn}
-use Rattle.deciding.proofs.Arrays.{length-mapped, live-length}
+use Rattle.rules.proofs.Arrays.{length-mapped, live-length}
 use Rattle.deciding.proofs.Scan.{Scanned, scan-starts, scan-taken, scan-kept, scan-passed, scan-ends}
 use Rattle.deciding.proofs.Tables.{tablesAfter, fewer, way-dropped, way-leaves, way-on}
 use borrow.Author.Needs.{needs}

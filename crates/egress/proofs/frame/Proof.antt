@@ -1,6 +1,7 @@
 use mathlib.Core.Path.{sym, _∙_}
 use borrow.Author.Tests.{not-true, not-false}
-use Rattle.egress.proofs.Outcomes.{port-small, port-refused, frame-refused, list-refused, port-down, port-up}
+use Rattle.registers.proofs.Bitmaps.{port-small}
+use Rattle.egress.proofs.Outcomes.{port-refused, frame-refused, list-refused, port-down, port-up}
 use native.Mathlib.Omega.{arith}
 use borrow.Author.Needs.{needs}
 use Rattle.egress.proofs.frame.Statement.{statement}

@@ -2,7 +2,7 @@ use Prim.Native.Nat.{_≤_, _-_}
 use mathlib.Core.Path.{_≡_, refl, sym}
 use lib.ListN.{length}
 use Rattle.rules.specs.Tables.{liveGroups, idOf}
-use Rattle.deciding.proofs.Arrays.{length-mapped, live-length}
+use Rattle.rules.proofs.Arrays.{length-mapped, live-length}
 use Rattle.outputs.specs.Outputs.{membersFound, lowsIn}
 use Rattle.outputs.proofs.Search.{Passed, noGroup, passed-none, passed-more, passed-here, passed-gone, passed-all}
 use borrow.Author.Needs.{needs}

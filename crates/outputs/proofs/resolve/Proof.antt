@@ -3,7 +3,7 @@ use Prim.Native.Nat.{_≤_, _-_}
 use mathlib.Core.Path.{_≡_}
 use lib.ListN.{length, getD}
 use Rattle.rules.specs.Tables.{liveGroups, idOf}
-use Rattle.deciding.proofs.Arrays.{length-mapped, live-length}
+use Rattle.rules.proofs.Arrays.{length-mapped, live-length}
 use Rattle.outputs.specs.Outputs.{lowsIn}
 use Rattle.outputs.proofs.Search.{noGroup, Passed, passed-none, passed-from, passed-more, passed-here, passed-gone, passed-all}
 use Rattle.outputs.proofs.Resolving.{Resolved, resolved-none, resolved-all, resolved-gone, resolved-sent, output-is}

@@ -6,7 +6,8 @@ use mathlib.Core.Logic.{⊎-elim}
 use native.Mathlib.Omega.{arith}
 use borrow.Author.Needs.{needs}
 use Rattle.rules.specs.Tables.{liveFlows, cookieOf}
-use Rattle.tables.proofs.Slots.{length-mapped, Shifted, unshifted, shift-down}
+use Rattle.rules.proofs.Arrays.{length-mapped}
+use Rattle.tables.proofs.Slots.{Shifted, unshifted, shift-down}
 use Rattle.tables.proofs.Search.{Searching, Sought, begin, pass, stop, end, inserted}
 use Rattle.tables.proofs.Commands.{add-held, add-full, add-done}
 use Rattle.tables.proofs.flows.flow_add.Statement.{statement}

@@ -7,7 +7,8 @@ use mathlib.Core.Logic.{⊎-elim}
 use native.Mathlib.Omega.{arith}
 use borrow.Author.Needs.{needs}
 use Rattle.rules.specs.Tables.{liveFlows, cookieOf}
-use Rattle.tables.proofs.Slots.{length-mapped, Shifted, unshifted, shift-up}
+use Rattle.rules.proofs.Arrays.{length-mapped}
+use Rattle.tables.proofs.Slots.{Shifted, unshifted, shift-up}
 use Rattle.tables.proofs.Search.{Searching, Sought, begin, pass, stop, end, held-lt, removed}
 use Rattle.tables.proofs.Commands.{not-held, held-done}
 use Rattle.tables.proofs.flows.flow_del.Statement.{statement}

@@ -5,7 +5,7 @@ use mathlib.Core.Logic.{⊎-elim}
 use native.Mathlib.Omega.{arith}
 use borrow.Author.Needs.{needs}
 use Rattle.rules.specs.Tables.{liveGroups, idOf}
-use Rattle.tables.proofs.Slots.{length-mapped}
+use Rattle.rules.proofs.Arrays.{length-mapped}
 use Rattle.tables.proofs.Search.{Searching, Sought, begin, pass, stop, end, held-lt, replaced}
 use Rattle.tables.proofs.Commands.{not-held, held-done}
 use Rattle.tables.proofs.groups.group_mod.Statement.{statement}
