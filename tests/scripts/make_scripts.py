@@ -485,7 +485,7 @@ def incident_run():
     s.add("peek 0x0 64")
     s.note("Again after the change: nothing is posted, so nothing is consumed.")
     s.add(*["write 4 0x100c 1"] * 18, "work 65536", "peek 0x0 64", "read 4 0x1018", "write 4 0x1018 1", "read 4 0x1018")
-    s.note("Too little room leaves the slot where it is; a descriptor outside memory too.")
+    s.note("Too short a buffer leaves the slot where it is.")
     s.post(payload(3, listed(ingress(0xC0FFEE))))
     s.add("work 0", "work 5", "work 6", "work 125", "peek 0x20 32", "work 126", "peek 0x20 32")
     wrapped(s, 0x1000, 2, 5)
