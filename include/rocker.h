@@ -12,7 +12,8 @@
  *     outcome lies in the guest memory that is handed in. While the call runs, no other thread (no running guest either) writes a
  *     place that it is given, or reads one that it writes.
  *   - A device is all zero, or as one of these functions left it: the bools in it must be 0 or 1. It may be copied and moved.
- *   - There is room on the stack: 220 KB for rocker_call and all that goes through it, 100 KB for rocker_fresh, 60 KB for rocker_frame.
+ *   - There is room on the stack: 200 KB for rocker_call and what goes through it (rocker_link, rocker_header), 110 KB for rocker_fresh
+ *     and rocker_process_slot, 30 KB for rocker_frame.
  */
 #ifndef ROCKER_H
 #define ROCKER_H

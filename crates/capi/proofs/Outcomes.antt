@@ -14,18 +14,18 @@ use Rattle.device.specs.declared.Made.{Made}
 use Rattle.capi.specs.Asking.{askRefusal, requestOf, asked}
 use Rattle.capi.specs.Outcome.{Outcome, FreshOutcome, outAfter, numbersOf, bitOf}
 
-module _ (d : Device) (x : Borrowed) (kind a b c room : ℕ) (out : List ℕ) where
-  pub refused : {n : ℕ} {out′ : List ℕ} → n ≡ askRefusal kind b room → (n ≡ 0 → ⊥) → out′ ≡ outAfter (0 ∷ 0 ∷ 0 ∷ 0 ∷ 0 ∷ []) out
-      → Outcome n d d (x .memory) (x .buffer) (x .list) out out′ (asked (switchOf d) x kind a b c room)
+module _ (d : Device) (x : Borrowed) (kind a b c numbers : ℕ) (out : List ℕ) where
+  pub refused : {n : ℕ} {out′ : List ℕ} → n ≡ askRefusal kind b numbers → (n ≡ 0 → ⊥) → out′ ≡ outAfter (0 ∷ 0 ∷ 0 ∷ 0 ∷ 0 ∷ []) out
+      → Outcome n d d (x .memory) (x .buffer) (x .list) out out′ (asked (switchOf d) x kind a b c numbers)
   unfolding asked unlessRefused unchanged numbersOf bitOf
   refused {n} {out′} e z w =
       rw (← e, ne-eqb n 0 z)
       (record { answer-is = refl; out-is = w; memory-is = refl; buffer-is = refl; list-is = refl; switch-is = refl; kept = λ y. refl })
 
-  pub performed : {n answer i : ℕ} {q : Request} {memory buffer list out′ : List ℕ} (r : Called) → n ≡ askRefusal kind b room → n ≡ 0 → q ≡ requestOf kind a b c
+  pub performed : {n answer i : ℕ} {q : Request} {memory buffer list out′ : List ℕ} (r : Called) → n ≡ askRefusal kind b numbers → n ≡ 0 → q ≡ requestOf kind a b c
       → device.Outcome r d memory buffer list (step (switchOf d) x q) → answer ≡ number (r .answer) → i ≡ bitOf (r .interrupt)
       → out′ ≡ outAfter (r .value ∷ i ∷ r .completed ∷ r .length ∷ r .outputs ∷ []) out
-      → Outcome answer d (r .device) memory buffer list out out′ (asked (switchOf d) x kind a b c room)
+      → Outcome answer d (r .device) memory buffer list out out′ (asked (switchOf d) x kind a b c numbers)
   unfolding asked unlessRefused numbersOf
   performed {n} r e z f o k j w =
       rw (← e, eq-eqb n 0 z, ← f)

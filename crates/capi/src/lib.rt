@@ -24,8 +24,8 @@ pub struct Performed {
 // ---- Numbers in and out
 
 // Why the numbers ask for nothing: 2 for a kind or a link state that does not exist, 9 for an `out` that is too short; else 0.
-fn refusal(kind: u64, b: u64, room: usize) -> u32
-    ensures { λ r. ⌜ r ≡ askRefusal kind b room ⌝ }
+fn refusal(kind: u64, b: u64, numbers: usize) -> u32
+    ensures { λ r. ⌜ r ≡ askRefusal kind b numbers ⌝ }
 {
     if 5 < kind {
         return 2;
@@ -33,7 +33,7 @@ fn refusal(kind: u64, b: u64, room: usize) -> u32
     if (kind == 2) & (1 < b) {
         return 2;
     }
-    if room < 5 {
+    if numbers < 5 {
         return 9;
     }
     0

@@ -66,12 +66,12 @@ module _ (d : Device) (memory frame buffer list : List ℕ) where
         let e : processRefusal (switchOf d) here ≡ 4 = rw (ne-eqb _ _ busy, le-leb _ _ h) in
         refused-with CreditsFull (sym e) (λ z. absurd (let y : _≡_ {A = ℕ} 4 0 = sym e ∙ z in omega arith))
 
-    module _ (room : d .registers .ring .credits < 65536) where
+    module _ (credit : d .registers .ring .credits < 65536) where
       pub descriptor-outside : inside (descriptorAt (d .registers .ring)) 32 memory ≡ false
           → Outcome (quiet d DescriptorOutside) d memory buffer list (step (switchOf d) here Process)
       unfolding processRefusal switchOf number borrowed
       descriptor-outside h =
-          let e : processRefusal (switchOf d) here ≡ 5 = rw (ne-eqb _ _ busy, lt-leb _ _ room, h) in
+          let e : processRefusal (switchOf d) here ≡ 5 = rw (ne-eqb _ _ busy, lt-leb _ _ credit, h) in
           refused-with DescriptorOutside (sym e) (λ z. absurd (let y : _≡_ {A = ℕ} 5 0 = sym e ∙ z in omega arith))
 
       module _ (within : inside (descriptorAt (d .registers .ring)) 32 memory ≡ true) (at : ℕ) (stands : at ≡ descriptorAt (d .registers .ring))
@@ -94,7 +94,7 @@ module _ (d : Device) (memory frame buffer list : List ℕ) where
         unfolding processRefusal number borrowed
         buffer-short h =
             let e : processRefusal (switchOf d) here ≡ 6 =
-            unfold switchOf in rw (ne-eqb _ _ busy, lt-leb _ _ room, within, record-length, lt-ltb _ _ h) in
+            unfold switchOf in rw (ne-eqb _ _ busy, lt-leb _ _ credit, within, record-length, lt-ltb _ _ h) in
             refused-with BufferShort (sym e) (λ z. absurd (let y : _≡_ {A = ℕ} 6 0 = sym e ∙ z in omega arith))
 
         completion-is : completionAt (switchOf d .registers .ring) ≡ at + 30
@@ -123,17 +123,17 @@ module _ (d : Device) (memory frame buffer list : List ℕ) where
             → Outcome r d memory′ buffer′ list (step (switchOf d) here Process)
         processed r memory′ buffer′ h c =
             outcome-done d here Process r memory′ buffer′ list
-            (unfold refusal processRefusal switchOf borrowed in rw (ne-eqb _ _ busy, lt-leb _ _ room, within, record-length, le-ltb _ _ h))
+            (unfold refusal processRefusal switchOf borrowed in rw (ne-eqb _ _ busy, lt-leb _ _ credit, within, record-length, le-ltb _ _ h))
             (effect-is r memory′ buffer′ c)
 
 -- ---- The same, as `slot::take` says it: of every device with this ring
 
-module _ (ring : Ring) (memory : List ℕ) (room : ℕ) where
+module _ (ring : Ring) (memory : List ℕ) (bytes : ℕ) where
   abbrev Refuses : Answer → Type 0
-  Refuses a = (d : Device) (frame buffer list : List ℕ) → d .registers .ring ≡ ring → length buffer ≡ room
+  Refuses a = (d : Device) (frame buffer list : List ℕ) → d .registers .ring ≡ ring → length buffer ≡ bytes
       → Outcome (quiet d a) d memory buffer list (step (switchOf d) (borrowed memory frame buffer list) Process)
 
-  refusing : {r : Taken} (a : Answer) → (r .ready ≡ false) × (r .answer ≡ a) → Refuses a → Takes r ring memory room
+  refusing : {r : Taken} (a : Answer) → (r .ready ≡ false) × (r .answer ≡ a) → Refuses a → Takes r ring memory bytes
   refusing a is o =
       record {
         done = λ t. not-both (sym t ∙ is .0);
@@ -141,28 +141,28 @@ module _ (ring : Ring) (memory : List ℕ) (room : ℕ) where
         refused = λ _ d frame buffer list e z. rw (is .1) (o d frame buffer list e z);
       }
 
-  pub take-empty : {r : Taken} → (r .ready ≡ false) × (r .answer ≡ RingEmpty) → ring .head ≡ ring .tail → Takes r ring memory room
+  pub take-empty : {r : Taken} → (r .ready ≡ false) × (r .answer ≡ RingEmpty) → ring .head ≡ ring .tail → Takes r ring memory bytes
   take-empty is h = refusing RingEmpty is (λ d frame buffer list e z. ring-empty d memory frame buffer list (rw e h))
 
   module _ (busy : ring .head ≡ ring .tail → ⊥) where
-    pub take-full : {r : Taken} → (r .ready ≡ false) × (r .answer ≡ CreditsFull) → 65536 ≤ ring .credits → Takes r ring memory room
+    pub take-full : {r : Taken} → (r .ready ≡ false) × (r .answer ≡ CreditsFull) → 65536 ≤ ring .credits → Takes r ring memory bytes
     take-full is h = refusing CreditsFull is (λ d frame buffer list e z. credits-full d memory frame buffer list (rw e busy) (rw e h))
 
     module _ (credit : ring .credits < 65536) where
-      pub take-outside : {r : Taken} → (r .ready ≡ false) × (r .answer ≡ DescriptorOutside) → inside (descriptorAt ring) 32 memory ≡ false → Takes r ring memory room
+      pub take-outside : {r : Taken} → (r .ready ≡ false) × (r .answer ≡ DescriptorOutside) → inside (descriptorAt ring) 32 memory ≡ false → Takes r ring memory bytes
       take-outside is h =
           refusing DescriptorOutside is
           (λ d frame buffer list e z. descriptor-outside d memory frame buffer list (rw e busy) (rw e credit) (rw e h))
 
       module _ (within : inside (descriptorAt ring) 32 memory ≡ true) (at : ℕ) (stands : at ≡ descriptorAt ring) (x : Descriptor)
           (reads : x ≡ descriptor memory at) (s : Slot) (f : Fetches s memory x) where
-        pub take-short : {r : Taken} → (r .ready ≡ false) × (r .answer ≡ BufferShort) → room < 6 + s .size → Takes r ring memory room
+        pub take-short : {r : Taken} → (r .ready ≡ false) × (r .answer ≡ BufferShort) → bytes < 6 + s .size → Takes r ring memory bytes
         take-short is h =
             refusing BufferShort is
             (λ d frame buffer list e z.
             buffer-short d memory frame buffer list (rw e busy) (rw e credit) (rw e within) at (rw e stands) x reads s f (rw z h))
 
-        pub take-ready : 6 + s .size ≤ room → Ready s at ring memory room
+        pub take-ready : 6 + s .size ≤ bytes → Ready s at ring memory bytes
         take-ready h =
             record { posted = busy; uncredited = credit; within = within; stands = stands; fetches = rw reads at f; fits = h }
 

@@ -19,19 +19,19 @@ use Rattle.device.specs.declared.slot.Slot.{Slot}
 use Rattle.device.specs.declared.slot.Taken.{Taken}
 
 -- a slot s that may be completed: nothing refuses it, its descriptor stands at a position, and its record fits the buffer
-pub record Ready (s : Slot) (at : ℕ) (ring : Ring) (memory : List ℕ) (room : ℕ) : Type 0 where
+pub record Ready (s : Slot) (at : ℕ) (ring : Ring) (memory : List ℕ) (bytes : ℕ) : Type 0 where
   pub posted : ring .head ≡ ring .tail → ⊥
   pub uncredited : ring .credits < 65536
   pub within : inside (descriptorAt ring) 32 memory ≡ true
   pub stands : at ≡ descriptorAt ring
   pub fetches : Fetches s memory (descriptor memory at)
-  pub fits : 6 + s .size ≤ room
+  pub fits : 6 + s .size ≤ bytes
 
 -- a slot is ready, or the process call is refused with the answer, whatever the tables hold
-pub record Takes (r : Taken) (ring : Ring) (memory : List ℕ) (room : ℕ) : Type 0 where
+pub record Takes (r : Taken) (ring : Ring) (memory : List ℕ) (bytes : ℕ) : Type 0 where
   pub done : r .ready ≡ true → r .answer ≡ Done
-  pub taken : r .ready ≡ true → Ready (r .slot) (r .at) ring memory room
-  pub refused : r .ready ≡ false → (d : Device) (frame buffer list : List ℕ) → d .registers .ring ≡ ring → length buffer ≡ room
+  pub taken : r .ready ≡ true → Ready (r .slot) (r .at) ring memory bytes
+  pub refused : r .ready ≡ false → (d : Device) (frame buffer list : List ℕ) → d .registers .ring ≡ ring → length buffer ≡ bytes
       → Outcome (quiet d (r .answer)) d memory buffer list (step (switchOf d) (borrowed memory frame buffer list) Process)
 
 -- of a slot s whose descriptor stands at a position: the completion, and memory and buffer before and after

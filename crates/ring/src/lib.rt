@@ -112,7 +112,7 @@ pub fn write_size(r: Ring, v: u32) -> RingWritten
 }
 
 // A number modulo the size. Only one that is not below the size, which no call leaves in HEAD or TAIL, costs a division.
-fn place(size: u32, i: u32) -> u32
+fn reduced(size: u32, i: u32) -> u32
     requires { ⌜ 0 < size ⌝ }
     ensures { λ n. ⌜ n ≡ i % size ⌝ }
 {
@@ -124,8 +124,8 @@ fn distance(size: u32, from: u32, to: u32) -> u64
     requires { ⌜ 0 < size ⌝ }
     ensures { λ n. ⌜ n ≡ Ring·distance size from to ⌝ }
 {
-    let a = place(size, to) as u64;
-    let b = place(size, from) as u64;
+    let a = reduced(size, to) as u64;
+    let b = reduced(size, from) as u64;
     if b <= a { a - b } else { a + size as u64 - b }
 }
 

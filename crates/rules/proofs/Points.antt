@@ -18,7 +18,7 @@ use Rattle.rules.specs.Fields.{rows, memberWidth, ruleIn, ruleOf, field,
 use Rattle.rules.specs.GroupId.{groupType, groupVlan, groupLow, vlanAllowed, hasMembers, groupIdAllowed, memberId}
 use Rattle.rules.specs.Members.{elem, memberRight, collect, membersIn, membersRight, pad}
 use Rattle.rules.specs.Decode.{refused, carried, need, matchOf, flowOf, groupFits, newVlanFits, matchAllowed, flowUser, isTable, flowIn, flowKeyIn, groupOf, membersOf, groupAllowed, groupUser, groupIn, groupKeyIn, isCommand, commandIn, commandType, commandInfo, decode}
-use Rattle.rules.specs.Keyed.{place, holds, find, insert, replace, remove}
+use Rattle.rules.specs.Keyed.{position, holds, find, insert, replace, remove}
 use Rattle.rules.specs.Tables.{Tables, storedFlow, flowEntry, groupEntry, emptyTables, addStatus, heldStatus, commandStatus, withFlows, withGroups, commandEffect, decodedStatus, decodedEffect, executed, carryOut, execute}
 use Rattle.rules.specs.Journal.{completion, header, recordOf, begin, ready, stopped, headerRefusal as markRefusal, headerRead, isUnread, recordAgrees, tablesAfter, counted, recordRead, whole, feed, feeds, endsIn, finished, finish, replay, digits, decimal, item, line, report}
 use Rattle.rules.specs.Switch.{Switch, Borrowed, freshSwitch, unchanged, unlessRefused, readEffect, writeEffect, carry, carriedSlot, slotRecord, processRefusal, processEffect, headerRefusal, headed, refusal, effect, step}
@@ -165,5 +165,5 @@ all [] = true
 all (p ∷ ps) = same (p .seen) (p .expected) && all ps
 
 points-hold : all points ≡ true
-unfolding points point all same switchWith ring8 nothing bool headWrite sizeWrite testWrite creditsWrite payload run posted memory at-work worked journal written five one again code le leAt bytesOf swap16 part inside splice bit zeroRing distance outstanding advance baseRefusal baseEffect powerUpTo sizeRefusal sizeEffect headRefusal headEffect creditsRefusal creditsEffect creditsInterrupt ctrlEffect nextSlot completeEffect completeInterrupt registerAt isWide upperOf narrowAt coveredBy wideAt access accessRefusal valueOf readValue portBits withRing withLinks withTest withTest64 withEnable freshRegisters resetRegisters sets store latchOf baseLatched latchEffect taken joined writeTo unlessWriteRefused write readRefusal read portCountAllowed portAllowed descriptorAt descriptor completionAt fetch valueSize filled tlvAt tlvEnd stepAt walk tlvs endOf wellFormed fitsWidth meet scan lookup rows memberWidth ruleIn ruleOf field isAt numberIn nestIn given value right hasUser fieldRight everyBelow fieldsRight groupType groupVlan groupLow vlanAllowed hasMembers groupIdAllowed memberId elem memberRight collect membersIn membersRight pad refused carried need matchOf flowOf groupFits newVlanFits matchAllowed flowUser isTable flowIn flowKeyIn groupOf membersOf groupAllowed groupUser groupIn groupKeyIn isCommand commandIn commandType commandInfo decode place holds find insert replace remove storedFlow flowEntry groupEntry emptyTables addStatus heldStatus commandStatus withFlows withGroups commandEffect decodedStatus decodedEffect executed carryOut execute completion header recordOf begin ready stopped markRefusal headerRead isUnread recordAgrees tablesAfter counted recordRead whole feed feeds endsIn finished finish replay digits decimal item line report freshSwitch unchanged unlessRefused readEffect writeEffect carry carriedSlot slotRecord processRefusal processEffect headerRefusal headed refusal effect step
+unfolding points point all same switchWith ring8 nothing bool headWrite sizeWrite testWrite creditsWrite payload run posted memory at-work worked journal written five one again code le leAt bytesOf swap16 part inside splice bit zeroRing distance outstanding advance baseRefusal baseEffect powerUpTo sizeRefusal sizeEffect headRefusal headEffect creditsRefusal creditsEffect creditsInterrupt ctrlEffect nextSlot completeEffect completeInterrupt registerAt isWide upperOf narrowAt coveredBy wideAt access accessRefusal valueOf readValue portBits withRing withLinks withTest withTest64 withEnable freshRegisters resetRegisters sets store latchOf baseLatched latchEffect taken joined writeTo unlessWriteRefused write readRefusal read portCountAllowed portAllowed descriptorAt descriptor completionAt fetch valueSize filled tlvAt tlvEnd stepAt walk tlvs endOf wellFormed fitsWidth meet scan lookup rows memberWidth ruleIn ruleOf field isAt numberIn nestIn given value right hasUser fieldRight everyBelow fieldsRight groupType groupVlan groupLow vlanAllowed hasMembers groupIdAllowed memberId elem memberRight collect membersIn membersRight pad refused carried need matchOf flowOf groupFits newVlanFits matchAllowed flowUser isTable flowIn flowKeyIn groupOf membersOf groupAllowed groupUser groupIn groupKeyIn isCommand commandIn commandType commandInfo decode position holds find insert replace remove storedFlow flowEntry groupEntry emptyTables addStatus heldStatus commandStatus withFlows withGroups commandEffect decodedStatus decodedEffect executed carryOut execute completion header recordOf begin ready stopped markRefusal headerRead isUnread recordAgrees tablesAfter counted recordRead whole feed feeds endsIn finished finish replay digits decimal item line report freshSwitch unchanged unlessRefused readEffect writeEffect carry carriedSlot slotRecord processRefusal processEffect headerRefusal headed refusal effect step
 points-hold = refl

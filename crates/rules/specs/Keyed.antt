@@ -8,9 +8,9 @@ use Rattle.rules.specs.Choose.{choose}
 
 module _ {A : Type 0} (key : A → ℕ) where
   -- the position of a key: how many entries at the front have a lower one
-  unfoldable pub place : ℕ → List A → ℕ
-  place k [] = 0
-  place k (e ∷ es) = choose (ltb (key e) k) (suc (place k es)) 0
+  unfoldable pub position : ℕ → List A → ℕ
+  position k [] = 0
+  position k (e ∷ es) = choose (ltb (key e) k) (suc (position k es)) 0
 
   -- whether an entry at that position has the key
   unfoldable pub holds : ℕ → List A → Bool

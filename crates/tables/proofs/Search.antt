@@ -10,7 +10,7 @@ use lib.Dec.{eqb}
 use lib.ListN.{length, take, drop, getD, set, length-take, drop-of-length-le}
 use lib.Seq.{drop-cons, getD-take, take-set-lt}
 use borrow.Author.Tests.{lt-ltb, le-ltb}
-use Rattle.rules.specs.Keyed.{place, holds, insert, replace, remove}
+use Rattle.rules.specs.Keyed.{position, holds, insert, replace, remove}
 use Rattle.tables.proofs.Slots.{insertAt, without, Shifted, fill, take-without-end, take-without, holds-lt, insert-at, replace-at, remove-at, take-live}
 
 -- The search for the key k has passed `at` of the n live entries of es, all with lower keys, and found nothing yet
@@ -19,13 +19,13 @@ pub record Searching {A : Type 0} (key : A → ℕ) (slots k n count : ℕ) (es 
   pub live : n ≡ length (take count es)
   pub size : length es ≡ slots
   pub none : held ≡ false
-  pub place-is : place key k (take count es) ≡ at + place key k (drop at (take count es))
+  pub position-is : position key k (take count es) ≡ at + position key k (drop at (take count es))
   pub holds-is : holds key k (take count es) ≡ holds key k (drop at (take count es))
   pub inside : n ≤ slots
 
 -- The key's position among the live entries l, and whether it stands there
 pub record Sought {A : Type 0} (key : A → ℕ) (slots k n : ℕ) (l : List A) (at : ℕ) (held : Bool) : Type 0 where
-  pub place-is : at ≡ place key k l
+  pub position-is : at ≡ position key k l
   pub holds-is : holds key k l ≡ held
   pub live : n ≡ length l
   pub inside : n ≤ slots
@@ -45,16 +45,16 @@ module _ {A : Type 0} (key : A → ℕ) {slots k n count : ℕ} {es : List A} wh
         live = rw (length-take, z) m;
         size = z;
         none = refl;
-        place-is = omega arith;
+        position-is = omega arith;
         holds-is = refl;
         inside = omega arith;
       }
 
   module _ {at : ℕ} {held : Bool} (s : Searching key slots k n count es at held) where
     pub pass : (d : A) → at < n → key (getD es at d) < k → Searching key slots k n count es (at + 1) held
-    unfolding place holds
+    unfolding position holds
     pass d h b =
-        let p : place key k (drop at (take count es)) ≡ suc (place key k (drop (at + 1) (take count es))) =
+        let p : position key k (drop at (take count es)) ≡ suc (position key k (drop (at + 1) (take count es))) =
         rw (add-one, next count at es d (omega arith)) (simp (lt-ltb _ _ b)) in
         let q : holds key k (drop at (take count es)) ≡ holds key k (drop (at + 1) (take count es)) =
         rw (add-one, next count at es d (omega arith)) (simp (lt-ltb _ _ b)) in
@@ -63,30 +63,30 @@ module _ {A : Type 0} (key : A → ℕ) {slots k n count : ℕ} {es : List A} wh
           live = s .live;
           size = s .size;
           none = s .none;
-          place-is = omega arith;
+          position-is = omega arith;
           holds-is = s .holds-is ∙ q;
           inside = s .inside;
         }
 
     -- it ends at an entry whose key is not lower, or behind the last
     pub stop : {h : Bool} (d : A) → at < n → k ≤ key (getD es at d) → h ≡ eqb (key (getD es at d)) k → Sought key slots k n (take count es) at h
-    unfolding place holds
+    unfolding position holds
     stop d h b e =
-        let p : place key k (drop at (take count es)) ≡ 0 = rw (next count at es d (omega arith)) (simp (le-ltb _ _ b)) in
+        let p : position key k (drop at (take count es)) ≡ 0 = rw (next count at es d (omega arith)) (simp (le-ltb _ _ b)) in
         let q : holds key k (drop at (take count es)) ≡ eqb (key (getD es at d)) k =
         rw (next count at es d (omega arith)) (simp (le-ltb _ _ b)) in
-        record { place-is = omega arith; holds-is = s .holds-is ∙ q ∙ sym e; live = s .live; inside = s .inside; within = omega arith }
+        record { position-is = omega arith; holds-is = s .holds-is ∙ q ∙ sym e; live = s .live; inside = s .inside; within = omega arith }
 
     pub end : {h : Bool} → n ≤ at → h ≡ held → Sought key slots k n (take count es) at h
-    unfolding place holds
+    unfolding position holds
     end h e =
         let none : drop at (take count es) ≡ [] = drop-of-length-le (take count es) {i = at} (omega arith) in
-        let p : place key k (drop at (take count es)) ≡ 0 = rw none in
-        record { place-is = omega arith; holds-is = s .holds-is ∙ rw none (sym (e ∙ s .none)); live = s .live; inside = s .inside; within = omega arith }
+        let p : position key k (drop at (take count es)) ≡ 0 = rw none in
+        record { position-is = omega arith; holds-is = s .holds-is ∙ rw none (sym (e ∙ s .none)); live = s .live; inside = s .inside; within = omega arith }
 
 -- a key that is held stands at one of the live entries
 pub held-lt : {A : Type 0} {key : A → ℕ} {slots k n at : ℕ} {l : List A} {held : Bool} → Sought key slots k n l at held → held ≡ true → at < n
-held-lt {key = key} {k = k} {l = l} f h = omega (arith, f .place-is, f .live, holds-lt key k l (f .holds-is ∙ h))
+held-lt {key = key} {k = k} {l = l} f h = omega (arith, f .position-is, f .live, holds-lt key k l (f .holds-is ∙ h))
 
 -- ---- What a change of the array does to its live entries
 
@@ -96,7 +96,7 @@ module _ {A : Type 0} (key : A → ℕ) {slots n at : ℕ} {held : Bool} (count 
       → Shifted slots at n n i es₀ es → i ≤ at → take (n + 1) (set es i e) ≡ insert key e (take count es₀)
   inserted {i} {es₀} {es} e f s h =
       let l : take n es₀ ≡ take count es₀ = rw (f .live) (take-live count es₀) in
-      let p : i ≡ place key (key e) (take count es₀) = omega arith in
+      let p : i ≡ position key (key e) (take count es₀) = omega arith in
       rw (add-one, fill n i e es (omega arith) (omega arith), s .rest, take-without-end n es₀, l, insert-at key e (take count es₀))
       (ap (λ (j : ℕ). insertAt j e (take count es₀)) p)
 
@@ -105,7 +105,7 @@ module _ {A : Type 0} (key : A → ℕ) {slots n at : ℕ} {held : Bool} (count 
   replaced es e f h =
       let b = held-lt f h in
       take-set-lt count es at e (omega (arith, f .live, length-take count es))
-      ∙ rw (f .place-is) (sym (replace-at key e (take count es) (f .holds-is ∙ h)))
+      ∙ rw (f .position-is) (sym (replace-at key e (take count es) (f .holds-is ∙ h)))
 
   -- the entries after the position were shifted, and the free slot stays behind them
   pub removed : {k i last : ℕ} {es₀ es : List A} → Sought key slots k n (take count es₀) at held → held ≡ true → last ≡ n - 1
@@ -118,4 +118,4 @@ module _ {A : Type 0} (key : A → ℕ) {slots n at : ℕ} {held : Bool} (count 
       let r = rw j at (s .rest) in
       sym (take-without-end last es)
       ∙ rw (r, take-without last at es₀ (omega arith), l, remove-at key k (take count es₀) (f .holds-is ∙ h))
-      (ap (λ (p : ℕ). without p (take count es₀)) (f .place-is))
+      (ap (λ (p : ℕ). without p (take count es₀)) (f .position-is))

@@ -7,7 +7,7 @@ use mathlib.Core.List.{List, [], _∷_, map}
 use native.Mathlib.Omega.{arith}
 use native.Mathlib.Numerals.{add-one}
 use lib.ListN.{length, take, getD, set, length-set, length-map}
-use Rattle.rules.specs.Keyed.{place, holds, insert, replace, remove}
+use Rattle.rules.specs.Keyed.{position, holds, insert, replace, remove}
 use Rattle.rules.proofs.Cases.{by-lt, by-order, not-both}
 
 module _ {A : Type 0} where
@@ -99,18 +99,18 @@ module _ {A : Type 0} {slots lo hi p : ℕ} {es₀ : List A} where
 
 module _ {A : Type 0} (key : A → ℕ) where
   -- a key that is held stands at one of the entries
-  pub holds-lt : (k : ℕ) (l : List A) → holds key k l ≡ true → place key k l < length l
-  unfolding place holds
+  pub holds-lt : (k : ℕ) (l : List A) → holds key k l ≡ true → position key k l < length l
+  unfolding position holds
   holds-lt k [] t = not-both (sym t)
   holds-lt k (g ∷ gs) t = by-lt (key g) k (λ h p. simp p (omega (arith, holds-lt k gs (simp p at t)))) (λ h p. simp p (omega arith))
 
-  pub insert-at : (e : A) (l : List A) → insert key e l ≡ insertAt (place key (key e) l) e l
-  unfolding insert place
+  pub insert-at : (e : A) (l : List A) → insert key e l ≡ insertAt (position key (key e) l) e l
+  unfolding insert position
   insert-at e [] = refl
   insert-at e (g ∷ gs) = by-lt (key g) (key e) (λ h p. simp p (ap {B = List A} (λ r. g ∷ r) (insert-at e gs))) (λ h p. simp p)
 
-  pub replace-at : (e : A) (l : List A) → holds key (key e) l ≡ true → replace key e l ≡ set l (place key (key e) l) e
-  unfolding replace place holds
+  pub replace-at : (e : A) (l : List A) → holds key (key e) l ≡ true → replace key e l ≡ set l (position key (key e) l) e
+  unfolding replace position holds
   replace-at e [] t = refl
   replace-at e (g ∷ gs) t =
       by-order (key g) (key e)
@@ -118,8 +118,8 @@ module _ {A : Type 0} (key : A → ℕ) where
       (λ h p q. simp (p, q))
       (λ h p q. not-both (sym (simp (p, q) at t)))
 
-  pub remove-at : (k : ℕ) (l : List A) → holds key k l ≡ true → remove key k l ≡ without (place key k l) l
-  unfolding remove place holds
+  pub remove-at : (k : ℕ) (l : List A) → holds key k l ≡ true → remove key k l ≡ without (position key k l) l
+  unfolding remove position holds
   remove-at k [] t = refl
   remove-at k (g ∷ gs) t =
       by-order (key g) k

@@ -1,8 +1,8 @@
 use mathlib.Core.Path.{sym}
 use native.Mathlib.Nat.{mod-eq-of-lt}
 use borrow.Author.Needs.{needs}
-use Rattle.ring.proofs.place.Statement.{statement}
-use Rattle.ring.proofs.place.Tie as tie
+use Rattle.ring.proofs.reduced.Statement.{statement}
+use Rattle.ring.proofs.reduced.Tie as tie
 
 rem-result : tie.Need-rem-result
 rem-result c = search needs
@@ -13,5 +13,5 @@ returns c = sym (mod-eq-of-lt (c .if1 .taken))
 returns-2 : tie.Need-returns-2
 returns-2 c = search needs
 
-pub place-spec : {M : Type 1} → statement M
-place-spec = tie.close (tie.spec rem-result returns returns-2)
+pub reduced-spec : {M : Type 1} → statement M
+reduced-spec = tie.close (tie.spec rem-result returns returns-2)
