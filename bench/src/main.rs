@@ -22,14 +22,55 @@ fn median(mut samples: Vec<f64>) -> f64 {
 }
 
 /// What one of so many runs in a row takes.
-fn batch(runs: u32, mut run: impl FnMut()) -> f64 {
-    let samples = (0..101).map(|_| {
-        let began = Instant::now();
-        (0..runs).for_each(|_| run());
-        began.elapsed().as_nanos() as f64 / f64::from(runs)
-    });
-    median(samples.collect())
+fn each(runs: u32, mut run: impl FnMut()) -> f64 {
+    let began = Instant::now();
+    (0..runs).for_each(|_| run());
+    began.elapsed().as_nanos() as f64 / f64::from(runs)
 }
+
+fn batch(runs: u32, mut run: impl FnMut()) -> f64 {
+    median((0..101).map(|_| each(runs, &mut run)).collect())
+}
+
+#[derive(Clone, Copy)]
+#[repr(C, align(64))]
+struct Entry([u64; 8]);
+
+/// What calls are held to. The machine's speed changes within a run, so a yardstick is laid beside each call that is measured.
+struct Yardsticks {
+    from: Vec<u8>,
+    to: Vec<u8>,
+    entries: Vec<Entry>,
+}
+
+impl Yardsticks {
+    fn new() -> Self {
+        Yardsticks {
+            from: vec![1; 48 << 10],
+            to: vec![0; 48 << 10],
+            entries: (0..256).map(|k| Entry([k; 8])).collect(),
+        }
+    }
+
+    /// A copy of 48 KiB.
+    fn copy(&mut self) -> f64 {
+        let began = Instant::now();
+        self.to.copy_from_slice(black_box(&self.from));
+        black_box(&mut self.to);
+        began.elapsed().as_nanos() as f64
+    }
+
+    /// A search through 256 structs of 64 bytes for one number.
+    fn scan(&self) -> f64 {
+        each(200, || {
+            let wanted = black_box(1000);
+            black_box(black_box(&self.entries).iter().position(|e| e.0[0] == wanted));
+        })
+    }
+}
+
+/// The ns of a call, and of the yardstick beside it, 0 where it has none.
+type Measured = (f64, f64);
 
 /// A switch of 62 ports, all up and enabled, with its guest.
 struct Host<D> {
@@ -110,100 +151,81 @@ impl<D: Calls> Host<D> {
         host
     }
 
-    fn frame(&self, to: [u8; 6], copies: usize) -> f64 {
+    fn frame(&self, yardsticks: &Yardsticks, to: [u8; 6], outputs: usize) -> Measured {
         let frame = payload::frame(to);
         let mut list = [0; 186];
-        batch(200, || {
-            let done = self.device.frame(1, black_box(&frame), &mut list);
-            assert_eq!(done, Ok(copies), "the copies of a frame");
-        })
+        let (mut frames, mut scans) = (Vec::new(), Vec::new());
+        for _ in 0..501 {
+            frames.push(each(40, || {
+                let done = self.device.frame(1, black_box(&frame), &mut list);
+                assert_eq!(done, Ok(outputs), "the outputs of a frame");
+            }));
+            scans.push(yardsticks.scan());
+        }
+        (median(frames), median(scans))
     }
 }
 
-/// The ns of each case, in the order of `CASES`.
-fn cases<D: Calls>() -> Vec<f64> {
+/// What each case takes, in the order of `CASES`.
+fn cases<D: Calls>() -> Vec<Measured> {
     let mut all = Vec::new();
+    let mut yardsticks = Yardsticks::new();
     for flows in [0, 128, 250] {
         let mut host = Host::<D>::with_flows(flows);
         let (last, next) = (flows, flows + 1);
-        let (mut mods, mut adds, mut dels) = (Vec::new(), Vec::new(), Vec::new());
+        let (mut mods, mut adds, mut dels, mut copies) = (Vec::new(), Vec::new(), Vec::new(), Vec::new());
         for _ in 0..2000 {
             let (took, status) = host.carry_out(&payload::ingress(FLOW_MOD, last));
             assert_eq!(status, if flows == 0 { 2 } else { 0 });
             mods.push(took);
             adds.push(host.ok(&payload::ingress(FLOW_ADD, next)));
             dels.push(host.ok(&payload::flow_del(next)));
+            copies.push(yardsticks.copy());
         }
-        all.extend([median(mods), median(adds), median(dels)]);
+        let copied = median(copies);
+        all.extend([mods, adds, dels].map(|samples| (median(samples), copied)));
     }
     let mut host = Host::<D>::bridge();
-    let floods = (0..500).map(|_| {
-        let took = host.ok(&payload::flood(2));
+    let (mut floods, mut copies) = (Vec::new(), Vec::new());
+    for _ in 0..500 {
+        floods.push(host.ok(&payload::flood(2)));
         host.ok(&payload::group_del(payload::flood_id(2)));
-        took
-    });
-    all.push(median(floods.collect()));
-    all.push(batch(1000, || {
+        copies.push(yardsticks.copy());
+    }
+    all.push((median(floods), median(copies)));
+    let head = batch(1000, || {
         let written = host.device.write(4, HEAD, black_box(host.head));
         assert_eq!(written, Ok(false));
-    }));
-    all.push(batch(1000, || {
+    });
+    let credits = batch(1000, || {
         assert!(host.device.read(4, black_box(CREDITS)).is_ok());
-    }));
-    all.push(host.frame(payload::mac(1), 1));
-    all.push(host.frame(payload::mac(247), 1));
-    all.push(host.frame(payload::mac(300), 0));
-    all.push(host.frame([0xff; 6], 61));
+    });
+    all.extend([(head, 0.0), (credits, 0.0)]);
+    all.push(host.frame(&yardsticks, payload::mac(1), 1));
+    all.push(host.frame(&yardsticks, payload::mac(247), 1));
+    all.push(host.frame(&yardsticks, payload::mac(300), 0));
+    all.push(host.frame(&yardsticks, [0xff; 6], 61));
     all
 }
 
-#[derive(Clone, Copy)]
-enum Yardstick {
-    Copy,
-    Scan,
-    None,
-}
-
-const CASES: [(&str, Yardstick); 16] = [
-    ("process, flow mod, 0 live (ENOENT)", Yardstick::Copy),
-    ("process, flow add, 0 live", Yardstick::Copy),
-    ("process, flow del, 1 live", Yardstick::Copy),
-    ("process, flow mod, 128 live", Yardstick::Copy),
-    ("process, flow add, 128 live", Yardstick::Copy),
-    ("process, flow del, 129 live", Yardstick::Copy),
-    ("process, flow mod, 250 live", Yardstick::Copy),
-    ("process, flow add, 250 live", Yardstick::Copy),
-    ("process, flow del, 251 live", Yardstick::Copy),
-    ("process, group add, 62 members", Yardstick::Copy),
-    ("HEAD write", Yardstick::None),
-    ("CREDITS read", Yardstick::None),
-    ("frame, unicast, first of 250 flows", Yardstick::Scan),
-    ("frame, unicast, last of 250 flows", Yardstick::Scan),
-    ("frame, miss, 250 flows", Yardstick::Scan),
-    ("frame, flood of 62", Yardstick::Scan),
+const CASES: [&str; 16] = [
+    "process, flow mod, 0 live (ENOENT)",
+    "process, flow add, 0 live",
+    "process, flow del, 1 live",
+    "process, flow mod, 128 live",
+    "process, flow add, 128 live",
+    "process, flow del, 129 live",
+    "process, flow mod, 250 live",
+    "process, flow add, 250 live",
+    "process, flow del, 251 live",
+    "process, group add, 62 members",
+    "HEAD write",
+    "CREDITS read",
+    "frame, unicast, first of 250 flows",
+    "frame, unicast, last of 250 flows",
+    "frame, miss, 250 flows",
+    "frame, flood of 62",
 ];
-
-/// A copy of 48 KiB.
-fn copy() -> f64 {
-    let from = vec![1u8; 48 << 10];
-    let mut to = vec![0u8; 48 << 10];
-    batch(200, || {
-        to.copy_from_slice(black_box(&from));
-        black_box(&mut to);
-    })
-}
-
-/// A search through 256 structs of 64 bytes for one number.
-fn scan() -> f64 {
-    #[derive(Clone, Copy)]
-    #[repr(C, align(64))]
-    struct Entry([u64; 8]);
-    let entries: Vec<Entry> = (0..256).map(|k| Entry([k; 8])).collect();
-    batch(1000, || {
-        let wanted = black_box(1000);
-        black_box(black_box(&entries).iter().position(|e| e.0[0] == wanted));
-    })
-}
 
 /// Replay of a million records, ns a record: the program `replay` on a file, and the second implementation on the same file.
 fn replay(root: &str) -> (f64, f64) {
@@ -224,26 +246,22 @@ fn replay(root: &str) -> (f64, f64) {
     (mine / RECORDS as f64, other / RECORDS as f64)
 }
 
-fn row(name: &str, mine: f64, other: f64, yardstick: Option<f64>) {
-    let ratio = yardstick.map_or("".to_string(), |y| format!("{:.1}", mine / y));
-    println!("| {name} | {mine:.0} | {other:.0} | {:.2} | {ratio} |", mine / other);
+fn row(name: &str, (mine, beside): Measured, other: f64) {
+    let (yardstick, ratio) = if beside > 0.0 {
+        (format!("{beside:.0}"), format!("{:.1}", mine / beside))
+    } else {
+        Default::default()
+    };
+    println!("| {name} | {mine:.0} | {other:.0} | {:.2} | {yardstick} | {ratio} |", mine / other);
 }
 
 fn main() {
-    let (copied, scanned) = (copy(), scan());
     let (mine, other) = (cases::<Rocker>(), cases::<Device>());
-    println!("| call | ns | ns, model | ratio to the model | ratio to the yardstick |");
-    println!("|---|---|---|---|---|");
-    println!("| yardstick: copy of 48 KiB | {copied:.0} | | | |");
-    println!("| yardstick: scan of 256 structs | {scanned:.0} | | | |");
-    for ((&(name, by), &mine), &other) in CASES.iter().zip(&mine).zip(&other) {
-        let yardstick = match by {
-            Yardstick::Copy => Some(copied),
-            Yardstick::Scan => Some(scanned),
-            Yardstick::None => None,
-        };
-        row(name, mine, other, yardstick);
+    println!("| call | ns | ns, model | ratio to the model | yardstick beside it, ns | ratio to the yardstick |");
+    println!("|---|---|---|---|---|---|");
+    for ((name, &mine), other) in CASES.iter().zip(&mine).zip(&other) {
+        row(name, mine, other.0);
     }
     let (mine, other) = replay(concat!(env!("CARGO_MANIFEST_DIR"), "/.."));
-    row("replay, a record of a million", mine, other, None);
+    row("replay, a record of a million", (mine, 0.0), other);
 }
