@@ -36,7 +36,7 @@ pub fn port_allowed(d: Registers, port: u64) -> bool
     port_count_allowed(d.ports as u64) & (1 <= port) & (port <= d.ports as u64)
 }
 
-pub fn links_after(links: u64, port: u64, up: bool) -> u64
+pub(crate) fn links_after(links: u64, port: u64, up: bool) -> u64
     requires { ⌜ port < 64 ⌝ }
     ensures { λ r. ⌜ r ≡ linkEffect links port up ⌝ }
 {

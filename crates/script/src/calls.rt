@@ -8,7 +8,7 @@ use text::Numeral;
 ghost use Prim.Native.Nat.{_≤_};
 ghost use lib.ListN.{length};
 
-pub fn clear(memory: &mut [u8]) {
+pub(crate) fn clear(memory: &mut [u8]) {
     let mut i = 0;
     while i < memory.len() {
         memory[i] = 0;
@@ -72,7 +72,7 @@ fn peek(s: &[u8], line: u64, memory: &[u8]) {
 }
 
 // A line that speaks of memory alone: whether it was one.
-pub fn on_memory(s: &[u8], line: u64, memory: &mut [u8]) -> bool {
+pub(crate) fn on_memory(s: &[u8], line: u64, memory: &mut [u8]) -> bool {
     let name = text::word(s, 0);
     if check::same(name, b"poke") {
         poke(s, line, memory);
@@ -137,7 +137,7 @@ fn write(d: Device, s: &[u8], line: u64) -> Device {
 }
 
 // As much of a number as a slice has bytes.
-pub fn within(n: usize, s: &[u8]) -> usize
+pub(crate) fn within(n: usize, s: &[u8]) -> usize
     ensures { λ r. ⌜ r ≤ length (now (s .entry)) ⌝ }
 {
     if n < s.len() { n } else { s.len() }
@@ -264,7 +264,7 @@ fn frame(d: Device, s: &[u8], line: u64, buffer: &mut [u8], list: &mut [u16]) {
 }
 
 // A line that calls the device.
-pub fn on_device(
+pub(crate) fn on_device(
     d: Device,
     s: &[u8],
     line: u64,

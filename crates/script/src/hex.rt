@@ -32,7 +32,7 @@ fn is_dash(s: &[u8]) -> bool
 }
 
 // How many bytes a word stands for.
-pub fn count(s: &[u8]) -> Counted
+pub(crate) fn count(s: &[u8]) -> Counted
     ensures { λ r. ⌜ r ≡ counted (now (s .entry)) ⌝ }
 {
     if is_dash(s) {
@@ -75,7 +75,7 @@ fn byte(s: &[u8], i: usize) -> u8
 }
 
 // The bytes that a word stands for, as many as fit; 0 past the last.
-pub fn bytes(s: &[u8], out: &mut [u8])
+pub(crate) fn bytes(s: &[u8], out: &mut [u8])
     ensures { λ _. ⌜ BytesOf (now (s .entry)) (now (out .exit)) ⌝ }
 {
     let mut i = 0;

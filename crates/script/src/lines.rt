@@ -13,7 +13,7 @@ pub struct Reader {
     pub more: bool,
 }
 
-pub fn start() -> Reader {
+pub(crate) fn start() -> Reader {
     Reader {
         at: 0,
         got: 0,
@@ -70,7 +70,7 @@ fn step(r: Reader, input: &mut [u8], line: &mut [u8]) -> Reader {
 }
 
 // The next line, without its end. A last one needs no newline; after it stands an empty one.
-pub fn take(r: Reader, input: &mut [u8], line: &mut [u8]) -> Reader {
+pub(crate) fn take(r: Reader, input: &mut [u8], line: &mut [u8]) -> Reader {
     let mut q = r;
     q.lines = std::num::wrapping_add_u64(r.lines, 1);
     q.used = 0;

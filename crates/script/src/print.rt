@@ -4,7 +4,7 @@ use libc::STDOUT_FILENO;
 use rules::Answer;
 ghost use Prim.Native.Nat.{_<_, _≤_};
 
-pub fn complain(line: u64, why: &[u8]) {
+pub(crate) fn complain(line: u64, why: &[u8]) {
     io::write_all(STDERR_FILENO, b"console: line ");
     io::print_decimal(STDERR_FILENO, line);
     io::write_all(STDERR_FILENO, b": ");
@@ -12,18 +12,18 @@ pub fn complain(line: u64, why: &[u8]) {
     io::write_all(STDERR_FILENO, b"\n");
 }
 
-pub fn answer(a: Answer) {
+pub(crate) fn answer(a: Answer) {
     io::print_decimal(STDOUT_FILENO, answers::number(a));
 }
 
 // A space, and a number.
-pub fn value(v: u64) {
+pub(crate) fn value(v: u64) {
     io::write_all(STDOUT_FILENO, b" ");
     io::print_decimal(STDOUT_FILENO, v);
 }
 
 // A space, and whether vector 0 was raised.
-pub fn raised(interrupt: bool) {
+pub(crate) fn raised(interrupt: bool) {
     if interrupt {
         io::write_all(STDOUT_FILENO, b" 0");
     } else {
@@ -31,11 +31,11 @@ pub fn raised(interrupt: bool) {
     }
 }
 
-pub fn space() {
+pub(crate) fn space() {
     io::write_all(STDOUT_FILENO, b" ");
 }
 
-pub fn end() {
+pub(crate) fn end() {
     io::write_all(STDOUT_FILENO, b"\n");
 }
 
@@ -96,7 +96,7 @@ fn part_end(at: usize, end: usize) -> usize
 }
 
 // Bytes as digits, - for none.
-pub fn bytes(s: &[u8]) {
+pub(crate) fn bytes(s: &[u8]) {
     if s.len() == 0 {
         io::write_all(STDOUT_FILENO, b"-");
         return;
@@ -120,7 +120,7 @@ fn number(list: &[u16], k: usize) {
 }
 
 // The first numbers of a list.
-pub fn numbers(list: &[u16], n: usize) {
+pub(crate) fn numbers(list: &[u16], n: usize) {
     let mut k = 0;
     while k < n {
         number(list, k);

@@ -9,12 +9,12 @@ pub struct Numbers {
     pub c: u64,
 }
 
-pub fn argument(s: &[u8], k: usize) -> Numeral {
+pub(crate) fn argument(s: &[u8], k: usize) -> Numeral {
     text::number(text::word(s, k))
 }
 
 // Of a line with so many words, two to four of them with the name.
-pub fn arguments(s: &[u8], words: usize) -> Numbers {
+pub(crate) fn arguments(s: &[u8], words: usize) -> Numbers {
     let mut r = Numbers {
         good: false,
         a: 0,
