@@ -1,118 +1,96 @@
--- From what a table promises of its command to what carrying a decoding out comes to.
+-- From what one table promises of a command to what the command comes to: the other table is as it was.
 -- Assumes nothing.
 use Prim.Native.Nat.{ℕ}
-use mathlib.Core.Bool.{Bool, true, false}
-use mathlib.Core.Path.{_≡_, refl, sym, _∙_}
+use mathlib.Core.Path.{_≡_, refl, ap, sym, _∙_}
 use mathlib.Core.List.{List}
 use lib.Dec.{eqb}
 use Rattle.rules.specs.Answers.{code}
-use Rattle.rules.specs.Keyed.{insert, replace}
-use Rattle.rules.specs.Tables.{flowEntry, storedFlow, groupEntry, cookieOf, idOf, liveFlows, liveGroups, tablesOf, addStatus, heldStatus, commandStatus, withFlows, withGroups, commandEffect, decodedStatus, decodedEffect, executed}
+use Rattle.rules.specs.Places.{Places, places, live}
+use Rattle.rules.specs.Rows.{entryIn}
+use Rattle.rules.specs.Tables.{Arrays, arrays, cookieOf, idOf, flowEntry, storedFlow, groupEntry, tablesOf, withFlows, withGroups, commandStatus, commandEffect, executed}
+use Rattle.rules.specs.declared.Counts.{Counts}
 use Rattle.rules.specs.declared.Status.{Status}
-use Rattle.rules.specs.declared.Decoded.{Decoded}
-use Rattle.rules.specs.declared.Decoded.the-variants.{Carry, Refused}
 use Rattle.rules.specs.declared.Flow.{Flow}
 use Rattle.rules.specs.declared.Group.{Group}
-use Rattle.rules.specs.declared.FlowEntry.{FlowEntry}
-use Rattle.rules.specs.declared.GroupEntry.{GroupEntry}
-use Rattle.rules.specs.declared.FlowTable.{FlowTable}
-use Rattle.rules.specs.declared.GroupTable.{GroupTable}
 use Rattle.rules.specs.declared.Command.{Command}
 use Rattle.rules.specs.declared.Command.the-variants.{FlowAdd, FlowMod, FlowDel, GroupAdd, GroupMod, GroupDel}
-use Rattle.rules.proofs.Cases.{by-test, not-both}
+use Rattle.rules.specs.declared.FlowEntry.{FlowEntry}
+use Rattle.rules.specs.declared.GroupEntry.{GroupEntry}
+use Rattle.rules.proofs.Cases.{by-test}
 use Rattle.rules.proofs.Tables.{cookie-kept}
-use Rattle.tables.specs.Commands.{Changed}
+use Rattle.tables.specs.Commands.{Changed, Added, Modded, Deleted}
+use Rattle.tables.specs.Groups.{GroupPlaces, groupPlaces, groupsIn}
 use Rattle.execute.specs.Outcome.{Executes}
-use Rattle.execute.specs.Parts.{ofFlows, changesFlows, flowsAlone, flowStatus, flowEffect, statusOnFlows, effectOnFlows, groupsAlone, groupStatus, groupEffect, statusOnGroups, effectOnGroups}
 
--- ---- A decoding on the table that it changes
-
-module _ {T A : Type 0} (live : T → List A) (t : T) where
-  pub unchanged : (e status : Status) (table : T) → status ≡ e → table ≡ t → Changed live t e (live t) status table
-  unchanged e status table s k =
-      record { status-is = s; live-is = rw k (by-test (eqb (code e) 0) (λ p. rw p) (λ p. rw p)); kept = λ n. k }
-
-module _ (t : FlowTable) (status : Status) (table : FlowTable) where
-  module _ (f : Flow) (e : FlowEntry) (is : e ≡ flowEntry f) where
-    pub flow-added : Changed liveFlows t (addStatus cookieOf 256 (e .cookie) (liveFlows t)) (insert cookieOf e (liveFlows t)) status table
-        → Changed liveFlows t (flowStatus (FlowAdd f) (liveFlows t)) (flowEffect (FlowAdd f) (liveFlows t)) status table
-    unfolding flowStatus flowEffect ofFlows commandStatus commandEffect withFlows flowsAlone flowEntry storedFlow
-    flow-added h = rw (is, cookie-kept f) at h
-
-    pub flow-replaced : Changed liveFlows t (heldStatus cookieOf (e .cookie) (liveFlows t)) (replace cookieOf e (liveFlows t)) status table
-        → Changed liveFlows t (flowStatus (FlowMod f) (liveFlows t)) (flowEffect (FlowMod f) (liveFlows t)) status table
-    unfolding flowStatus flowEffect ofFlows commandStatus commandEffect withFlows flowsAlone flowEntry storedFlow
-    flow-replaced h = rw (is, cookie-kept f) at h
-
-module _ (t : GroupTable) (status : Status) (table : GroupTable) (m : List ℕ) (g : Group) (e : GroupEntry) (is : e ≡ groupEntry g m) where
-  pub group-added : Changed liveGroups t (addStatus idOf 128 (e .id) (liveGroups t)) (insert idOf e (liveGroups t)) status table
-      → Changed liveGroups t (groupStatus (GroupAdd g) (liveGroups t)) (groupEffect (GroupAdd g) m (liveGroups t)) status table
-  unfolding groupStatus groupEffect ofFlows commandStatus commandEffect withGroups groupsAlone groupEntry
-  group-added h = rw is at h
-
-  pub group-replaced : Changed liveGroups t (heldStatus idOf (e .id) (liveGroups t)) (replace idOf e (liveGroups t)) status table
-      → Changed liveGroups t (groupStatus (GroupMod g) (liveGroups t)) (groupEffect (GroupMod g) m (liveGroups t)) status table
-  unfolding groupStatus groupEffect ofFlows commandStatus commandEffect withGroups groupsAlone groupEntry
-  group-replaced h = rw is at h
-
--- ---- The parts put together: the other table is as it was
-
-module _ (flows : FlowTable) (groups : GroupTable) (m : List ℕ) where
-  flow-status : (c : Command) → ofFlows c ≡ true → flowStatus c (liveFlows flows) ≡ commandStatus (tablesOf flows groups) c
-  unfolding flowStatus ofFlows commandStatus tablesOf flowsAlone
-  flow-status (FlowAdd f) e = refl
-  flow-status (FlowMod f) e = refl
-  flow-status (FlowDel k) e = refl
-  flow-status (GroupAdd g) e = not-both (sym e)
-  flow-status (GroupMod g) e = not-both (sym e)
-  flow-status (GroupDel k) e = not-both (sym e)
-
-  flow-effect : (c : Command) → ofFlows c ≡ true → commandEffect (tablesOf flows groups) c m ≡ withFlows (tablesOf flows groups) (flowEffect c (liveFlows flows))
-  unfolding flowEffect ofFlows commandEffect tablesOf flowsAlone withFlows
-  flow-effect (FlowAdd f) e = refl
-  flow-effect (FlowMod f) e = refl
-  flow-effect (FlowDel k) e = refl
-  flow-effect (GroupAdd g) e = not-both (sym e)
-  flow-effect (GroupMod g) e = not-both (sym e)
-  flow-effect (GroupDel k) e = not-both (sym e)
-
-  group-status : (c : Command) → ofFlows c ≡ false → groupStatus c (liveGroups groups) ≡ commandStatus (tablesOf flows groups) c
-  unfolding groupStatus ofFlows commandStatus tablesOf groupsAlone
-  group-status (FlowAdd f) e = not-both e
-  group-status (FlowMod f) e = not-both e
-  group-status (FlowDel k) e = not-both e
-  group-status (GroupAdd g) e = refl
-  group-status (GroupMod g) e = refl
-  group-status (GroupDel k) e = refl
-
-  group-effect : (c : Command) → ofFlows c ≡ false → commandEffect (tablesOf flows groups) c m ≡ withGroups (tablesOf flows groups) (groupEffect c m (liveGroups groups))
-  unfolding groupEffect ofFlows commandEffect tablesOf groupsAlone withGroups
-  group-effect (FlowAdd f) e = not-both e
-  group-effect (FlowMod f) e = not-both e
-  group-effect (FlowDel k) e = not-both e
-  group-effect (GroupAdd g) e = refl
-  group-effect (GroupMod g) e = refl
-  group-effect (GroupDel k) e = refl
-
-  pub flows-part : (what : Decoded) (status : Status) (table : FlowTable) → changesFlows what ≡ true
-      → Changed liveFlows flows (statusOnFlows what (liveFlows flows)) (effectOnFlows what (liveFlows flows)) status table
-      → Executes status table groups (executed (tablesOf flows groups) (decodedStatus (tablesOf flows groups) what) (decodedEffect (tablesOf flows groups) what m))
-  unfolding changesFlows statusOnFlows effectOnFlows decodedStatus decodedEffect executed withFlows tablesOf
-  flows-part (Refused s) status table e h = not-both (sym e)
-  flows-part (Carry c) status table e h =
+module _ (counts : Counts) (a : Arrays) {rule : Status} (status : Status) where
+  flows-part : {effect : List FlowEntry} (n : ℕ) (rows : List (List ℕ))
+      → Changed (live entryIn) (places (counts .flows) (a .flows)) rule effect status (places n rows)
+      → Executes (record { status = status; counts = record { flows = n; groups = counts .groups } }) counts a (arrays rows (a .heads) (a .members)) (executed (tablesOf counts a) rule (withFlows (tablesOf counts a) effect))
+  unfolding executed tablesOf withFlows
+  flows-part n rows h =
       record {
-        status-is = h .status-is ∙ flow-status c e;
-        tables-are = rw (h .live-is, flow-effect c e, ← flow-status c e) (by-test (eqb (code (flowStatus c (liveFlows flows))) 0) (λ p. rw p) (λ p. rw p));
+        status-is = h .status-is;
+        tables-are = rw (h .live-is) (by-test (eqb (code rule) 0) (λ p. rw p) (λ p. rw p));
+        kept = λ z. (ap (λ (t : Places (List ℕ)). record { flows = t .count; groups = counts .groups }) (h .kept z), ap (λ (t : Places (List ℕ)). arrays (t .rows) (a .heads) (a .members)) (h .kept z));
       }
 
-  pub groups-part : (what : Decoded) (status : Status) (table : GroupTable) → changesFlows what ≡ false
-      → Changed liveGroups groups (statusOnGroups what (liveGroups groups)) (effectOnGroups what m (liveGroups groups)) status table
-      → Executes status flows table (executed (tablesOf flows groups) (decodedStatus (tablesOf flows groups) what) (decodedEffect (tablesOf flows groups) what m))
-  unfolding changesFlows statusOnGroups effectOnGroups decodedStatus decodedEffect executed withGroups tablesOf
-  groups-part (Refused s) status table e h =
-      record { status-is = h .status-is; tables-are = rw (h .live-is) (by-test (eqb (code s) 0) (λ p. rw p) (λ p. rw p)) }
-  groups-part (Carry c) status table e h =
+  groups-part : {effect : List GroupEntry} (n : ℕ) (heads members : List (List ℕ))
+      → Changed groupsIn (groupPlaces (counts .groups) (a .heads) (a .members)) rule effect status (groupPlaces n heads members)
+      → Executes (record { status = status; counts = record { flows = counts .flows; groups = n } }) counts a (arrays (a .flows) heads members) (executed (tablesOf counts a) rule (withGroups (tablesOf counts a) effect))
+  unfolding executed tablesOf withGroups groupsIn
+  groups-part n heads members h =
       record {
-        status-is = h .status-is ∙ group-status c e;
-        tables-are = rw (h .live-is, group-effect c e, ← group-status c e) (by-test (eqb (code (groupStatus c (liveGroups groups))) 0) (λ p. rw p) (λ p. rw p));
+        status-is = h .status-is;
+        tables-are = rw (h .live-is) (by-test (eqb (code rule) 0) (λ p. rw p) (λ p. rw p));
+        kept = λ z. (ap (λ (t : GroupPlaces). record { flows = counts .flows; groups = t .count }) (h .kept z), ap (λ (t : GroupPlaces). arrays (a .flows) (t .heads) (t .members)) (h .kept z));
       }
+
+-- what the rules make of a command on the tables that these counts and arrays hold
+abbrev pub Carries : Counts → Arrays → Command → List ℕ → Status → Counts → Arrays → Type 0
+Carries counts a c m status counts′ a′ =
+    Executes (record { status = status; counts = counts′ }) counts a a′ (executed (tablesOf counts a) (commandStatus (tablesOf counts a) c) (commandEffect (tablesOf counts a) c m))
+
+module _ (counts : Counts) (a : Arrays) (m : List ℕ) (status : Status) (n : ℕ) where
+  module _ (rows : List (List ℕ)) where
+    abbrev pub FlowsTo : Command → Type 0
+    FlowsTo c =
+        Carries counts a c m status (record { flows = n; groups = counts .groups }) (arrays rows (a .heads) (a .members))
+
+    module _ (f : Flow) (e : FlowEntry) (is : e ≡ flowEntry f) where
+      pub flow-added : Added (live entryIn) cookieOf 256 (places (counts .flows) (a .flows)) e status (places n rows) → FlowsTo (FlowAdd f)
+      unfolding commandStatus commandEffect tablesOf flowEntry storedFlow
+      flow-added h = flows-part counts a status n rows (rw (is, cookie-kept f) at h)
+
+      pub flow-replaced : Modded (live entryIn) cookieOf 256 (places (counts .flows) (a .flows)) e status (places n rows) → FlowsTo (FlowMod f)
+      unfolding commandStatus commandEffect tablesOf flowEntry storedFlow
+      flow-replaced h = flows-part counts a status n rows (rw (is, cookie-kept f) at h)
+
+    pub flow-removed : (k : ℕ) → Deleted (live entryIn) cookieOf 256 (places (counts .flows) (a .flows)) k status (places n rows) → FlowsTo (FlowDel k)
+    unfolding commandStatus commandEffect tablesOf
+    flow-removed k h = flows-part counts a status n rows h
+
+  module _ (heads members : List (List ℕ)) where
+    abbrev pub GroupsTo : Command → Type 0
+    GroupsTo c = Carries counts a c m status (record { flows = counts .flows; groups = n }) (arrays (a .flows) heads members)
+
+    module _ (g : Group) (e : GroupEntry) (is : e ≡ groupEntry g m) where
+      pub group-added : Added groupsIn idOf 128 (groupPlaces (counts .groups) (a .heads) (a .members)) e status (groupPlaces n heads members)
+          → GroupsTo (GroupAdd g)
+      unfolding commandStatus commandEffect tablesOf groupsIn groupEntry
+      group-added h = groups-part counts a status n heads members (rw is at h)
+
+      pub group-replaced : Modded groupsIn idOf 128 (groupPlaces (counts .groups) (a .heads) (a .members)) e status (groupPlaces n heads members)
+          → GroupsTo (GroupMod g)
+      unfolding commandStatus commandEffect tablesOf groupsIn groupEntry
+      group-replaced h = groups-part counts a status n heads members (rw is at h)
+
+    pub group-removed : (k : ℕ) → Deleted groupsIn idOf 128 (groupPlaces (counts .groups) (a .heads) (a .members)) k status (groupPlaces n heads members)
+        → GroupsTo (GroupDel k)
+    unfolding commandStatus commandEffect tablesOf groupsIn
+    group-removed k h = groups-part counts a status n heads members h
+
+-- a payload's fault changes nothing
+pub refused : (counts : Counts) (a : Arrays) (e : Status) → Executes (record { status = e; counts = counts }) counts a a (executed (tablesOf counts a) e (tablesOf counts a))
+unfolding executed
+refused counts a e =
+    record { status-is = refl; tables-are = by-test (eqb (code e) 0) (λ p. rw p) (λ p. rw p); kept = λ z. (refl, refl) }

@@ -1,22 +1,25 @@
-// A decoded payload carried out: its status, and the table that it changes. Whoever holds the tables hands over that one alone, since
-// a table that is handed over is copied.
+// A decoded payload carried out on the tables, where they stand: its status, and how many entries are live after it.
 use rules::Command;
+use rules::Counts;
 use rules::Decoded;
+use rules::Decoding;
 use rules::Flow;
 use rules::FlowEntry;
-use rules::FlowTable;
 use rules::Group;
 use rules::GroupEntry;
-use rules::GroupTable;
 use rules::Match;
 use rules::Status;
-use tables::FlowChange;
-use tables::GroupChange;
+use tables::Counted;
 ghost use mathlib.Core.Path.{_≡_};
-ghost use Rattle.rules.specs.Tables.{liveFlows, liveGroups, flowEntry, groupEntry};
-ghost use Rattle.tables.specs.Commands.{Changed};
-ghost use Rattle.execute.specs.Parts.{ofFlows, changesFlows, flowStatus, flowEffect, statusOnFlows, effectOnFlows, groupStatus, groupEffect, statusOnGroups, effectOnGroups};
+ghost use Rattle.rules.specs.Tables.{arrays, tablesOf, flowEntry, groupEntry, commandStatus, commandEffect, executed, carryOut};
+ghost use Rattle.execute.specs.Outcome.{Executes};
 ghost use Rattle.execute.specs.Entries.{commonEntry};
+
+// A payload's status, and how many places of each table are live after it.
+pub struct Executed {
+    pub status: Status,
+    pub counts: Counts,
+}
 
 // A stored flow with the fields that every table has, the others 0.
 fn common_entry(f: Flow) -> FlowEntry
@@ -95,89 +98,90 @@ fn group_entry(g: Group, members: [u16; 62]) -> GroupEntry
     }
 }
 
-fn of_flows(c: Command) -> bool
-    ensures { λ r. ⌜ r ≡ ofFlows c ⌝ }
+// A command of the flow table: the groups' count stays.
+fn of_flows(r: Counted, counts: Counts) -> Executed
+    ensures { λ x. ⌜ x ≡ record { status = r .status; counts = record { flows = r .count; groups = counts .groups } } ⌝ }
 {
-    match c {
-        Command::FlowAdd(_) => true,
-        Command::FlowMod(_) => true,
-        Command::FlowDel(_) => true,
-        Command::GroupAdd(_) => false,
-        Command::GroupMod(_) => false,
-        Command::GroupDel(_) => false,
-    }
-}
-
-// Whether the flow table is the one that may change.
-pub fn changes_flows(what: Decoded) -> bool
-    ensures { λ r. ⌜ r ≡ changesFlows what ⌝ }
-{
-    match what {
-        Decoded::Carry(c) => of_flows(c),
-        Decoded::Refused(_) => false,
-    }
-}
-
-fn same_flows(status: Status, flows: FlowTable) -> FlowChange
-    ensures { λ r. ⌜ Changed liveFlows flows status (liveFlows flows) (r .status) (r .table) ⌝ }
-{
-    FlowChange {
+    let status = r.status;
+    Executed {
         status: status,
-        table: flows,
+        counts: Counts {
+            flows: r.count,
+            groups: counts.groups,
+        },
     }
 }
 
-fn flow_command(c: Command, flows: FlowTable) -> FlowChange
-    ensures { λ r. ⌜ Changed liveFlows flows (flowStatus c (liveFlows flows)) (flowEffect c (liveFlows flows)) (r .status) (r .table) ⌝ }
+// A command of the group table: the flows' count stays.
+fn of_groups(r: Counted, counts: Counts) -> Executed
+    ensures { λ x. ⌜ x ≡ record { status = r .status; counts = record { flows = counts .flows; groups = r .count } } ⌝ }
 {
-    match c {
-        Command::FlowAdd(f) => tables::flow_add(flows, flow_entry(f)),
-        Command::FlowMod(f) => tables::flow_mod(flows, flow_entry(f)),
-        Command::FlowDel(cookie) => tables::flow_del(flows, cookie),
-        Command::GroupAdd(_) => same_flows(Status::Ok, flows),
-        Command::GroupMod(_) => same_flows(Status::Ok, flows),
-        Command::GroupDel(_) => same_flows(Status::Ok, flows),
-    }
-}
-
-// The status, and the flow table after it.
-pub fn on_flows(what: Decoded, flows: FlowTable) -> FlowChange
-    ensures { λ r. ⌜ Changed liveFlows flows (statusOnFlows what (liveFlows flows)) (effectOnFlows what (liveFlows flows)) (r .status) (r .table) ⌝ }
-{
-    match what {
-        Decoded::Carry(c) => flow_command(c, flows),
-        Decoded::Refused(status) => same_flows(status, flows),
-    }
-}
-
-fn same_groups(status: Status, groups: GroupTable) -> GroupChange
-    ensures { λ r. ⌜ Changed liveGroups groups status (liveGroups groups) (r .status) (r .table) ⌝ }
-{
-    GroupChange {
+    let status = r.status;
+    Executed {
         status: status,
-        table: groups,
+        counts: Counts {
+            flows: counts.flows,
+            groups: r.count,
+        },
     }
 }
 
-fn group_command(c: Command, members: [u16; 62], groups: GroupTable) -> GroupChange
-    ensures { λ r. ⌜ Changed liveGroups groups (groupStatus c (liveGroups groups)) (groupEffect c members (liveGroups groups)) (r .status) (r .table) ⌝ }
+// A command, on the one table that it is about.
+fn command(
+    c: Command,
+    m: [u16; 62],
+    counts: Counts,
+    flows: &mut [[u32; 16]; 256],
+    heads: &mut [[u32; 3]; 128],
+    members: &mut [[u16; 62]; 128],
+) -> Executed
+    ensures { λ r. ⌜ Executes r counts (arrays (now (flows .entry)) (now (heads .entry)) (now (members .entry))) (arrays (now (flows .exit)) (now (heads .exit)) (now (members .exit))) (executed (tablesOf counts (arrays (now (flows .entry)) (now (heads .entry)) (now (members .entry)))) (commandStatus (tablesOf counts (arrays (now (flows .entry)) (now (heads .entry)) (now (members .entry)))) c) (commandEffect (tablesOf counts (arrays (now (flows .entry)) (now (heads .entry)) (now (members .entry)))) c m)) ⌝ }
 {
     match c {
-        Command::FlowAdd(_) => same_groups(Status::Ok, groups),
-        Command::FlowMod(_) => same_groups(Status::Ok, groups),
-        Command::FlowDel(_) => same_groups(Status::Ok, groups),
-        Command::GroupAdd(g) => tables::group_add(groups, group_entry(g, members)),
-        Command::GroupMod(g) => tables::group_mod(groups, group_entry(g, members)),
-        Command::GroupDel(id) => tables::group_del(groups, id),
+        Command::FlowAdd(f) => {
+            of_flows(tables::flow_add(flows, counts.flows, flow_entry(f)), counts)
+        }
+        Command::FlowMod(f) => {
+            of_flows(tables::flow_mod(flows, counts.flows, flow_entry(f)), counts)
+        }
+        Command::FlowDel(cookie) => {
+            of_flows(tables::flow_del(flows, counts.flows, cookie), counts)
+        }
+        Command::GroupAdd(g) => {
+            of_groups(
+                tables::group_add(heads, members, counts.groups, group_entry(g, m)),
+                counts,
+            )
+        }
+        Command::GroupMod(g) => {
+            of_groups(
+                tables::group_mod(heads, members, counts.groups, group_entry(g, m)),
+                counts,
+            )
+        }
+        Command::GroupDel(id) => {
+            of_groups(tables::group_del(heads, members, counts.groups, id), counts)
+        }
     }
 }
 
-// The status, and the group table after it.
-pub fn on_groups(what: Decoded, members: [u16; 62], groups: GroupTable) -> GroupChange
-    ensures { λ r. ⌜ Changed liveGroups groups (statusOnGroups what (liveGroups groups)) (effectOnGroups what members (liveGroups groups)) (r .status) (r .table) ⌝ }
+// What a payload asks for, or the status of its fault, which changes nothing.
+pub fn execute(
+    d: Decoding,
+    counts: Counts,
+    flows: &mut [[u32; 16]; 256],
+    heads: &mut [[u32; 3]; 128],
+    members: &mut [[u16; 62]; 128],
+) -> Executed
+    ensures { λ r. ⌜ Executes r counts (arrays (now (flows .entry)) (now (heads .entry)) (now (members .entry))) (arrays (now (flows .exit)) (now (heads .exit)) (now (members .exit))) (carryOut (tablesOf counts (arrays (now (flows .entry)) (now (heads .entry)) (now (members .entry)))) d) ⌝ }
 {
+    let what = d.what;
+    let m = d.members;
     match what {
-        Decoded::Carry(c) => group_command(c, members, groups),
-        Decoded::Refused(status) => same_groups(status, groups),
+        Decoded::Carry(c) => command(c, m, counts, flows, heads, members),
+        Decoded::Refused(status) => Executed {
+            status: status,
+            counts: counts,
+        },
     }
 }

@@ -80,3 +80,10 @@ take-splice new s = take-append-seam new _
 -- a part that goes to the end
 pub to-end : (s : List ℕ) (at : ℕ) → take (length s - at) (drop at s) ≡ drop at s
 to-end s at = take-all (length s - at) (drop at s) (rw length-drop (omega arith))
+
+-- bytes that are put over a list make it no shorter
+pub splice-no-shorter : (at : ℕ) (new s : List ℕ) → length s ≤ length (splice at new s)
+unfolding splice
+splice-no-shorter at new s =
+    omega
+    (arith, length-append (take at s) (new ++ drop (at + length new) s), length-append new (drop (at + length new) s), length-take at s, length-drop (at + length new) s)

@@ -6,6 +6,8 @@ pub mod Region
 pub mod FieldTable
 pub mod GroupId
 pub mod Keyed
+pub mod Mapped
+pub mod Rows
 pub mod Deciding
 pub mod Tables
 pub mod Journal

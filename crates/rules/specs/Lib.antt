@@ -1,4 +1,4 @@
--- Document 01 as definitions, a file a chapter, in the paper's order.
+-- Document 01 as definitions, in the paper's order; a chapter is one file or several (docs/ARCHITECTURE.md).
 pub mod Choose
 pub mod Answers
 pub mod Bytes
@@ -11,6 +11,8 @@ pub mod GroupId
 pub mod Members
 pub mod Decode
 pub mod Keyed
+pub mod Rows
+pub mod Places
 pub mod Tables
 pub mod Frame
 pub mod Journal

@@ -11,7 +11,7 @@ use Rattle.rules.specs.Ring.{completeEffect, completeInterrupt}
 use Rattle.rules.specs.Registers.{Written, write, read, readRefusal, withRing, withLinks, freshRegisters, portCountAllowed, portAllowed, linkEffect}
 use Rattle.rules.specs.Descriptor.{Fetched, descriptorAt, descriptor, completionAt, fetch}
 use Rattle.rules.specs.Descriptor.Fetched.{Faulty, Payload}
-use Rattle.rules.specs.Tables.{Tables, emptyTables, execute, tablesOf, freshFlows, freshGroups}
+use Rattle.rules.specs.Tables.{Tables, Arrays, emptyTables, execute, tablesOf, noneLive}
 use Rattle.rules.specs.Frame.{Output, frameRefusal, outputs, listAfter}
 use Rattle.rules.specs.Journal.{completion, header, recordOf}
 use Rattle.rules.specs.declared.Status.{Status}
@@ -25,9 +25,9 @@ pub record Switch : Type 0 where
   pub registers : Registers
   pub tables : Tables
 
--- what a device stands for: its registers and the live entries of its tables
-unfoldable pub switchOf : Device → Switch
-switchOf d = record { registers = d .registers; tables = tablesOf (d .flows) (d .groups) }
+-- what a device stands for, with the arrays that hold its places: its registers and the live entries of its tables
+unfoldable pub switchOf : Device → Arrays → Switch
+switchOf d a = record { registers = d .registers; tables = tablesOf (d .counts) a }
 
 -- ---- Fresh
 
@@ -39,9 +39,9 @@ freshRefusal ports = refuse (not (portCountAllowed ports)) 7 0
 unfoldable pub freshSwitch : ℕ → ℕ → Switch
 freshSwitch ports id = record { registers = freshRegisters ports id; tables = emptyTables }
 
--- the device itself, all entry slots free
+-- the device itself, all places free
 unfoldable pub freshDevice : ℕ → ℕ → Device
-freshDevice ports id = record { registers = freshRegisters ports id; flows = freshFlows; groups = freshGroups }
+freshDevice ports id = record { registers = freshRegisters ports id; counts = noneLive }
 
 -- ---- A call
 

@@ -21,8 +21,9 @@ use Rattle.rules.specs.declared.Decoded.the-variants.{Carry, Refused}
 use Rattle.rules.specs.declared.Decoding.{Decoding}
 use Rattle.rules.specs.declared.FlowEntry.{FlowEntry}
 use Rattle.rules.specs.declared.GroupEntry.{GroupEntry}
-use Rattle.rules.specs.declared.FlowTable.{FlowTable}
-use Rattle.rules.specs.declared.GroupTable.{GroupTable}
+use Rattle.rules.specs.declared.Counts.{Counts}
+use Rattle.rules.specs.Rows.{entryIn, groupIn, beside}
+use Rattle.rules.specs.Places.{places, live}
 
 -- ---- Entries
 
@@ -50,14 +51,6 @@ cookieOf e = e .cookie
 abbrev pub idOf : GroupEntry → ℕ
 idOf e = e .id
 
--- what stands in a free entry slot of a fresh device
-unfoldable pub freeFlow : FlowEntry
-freeFlow =
-    record { cookie = 0; «dst_mac» = 0; priority = 0; hardtime = 0; idletime = 0; «in_pport» = 0; «in_pport_mask» = 0; «group_id» = 0; table = 0; «goto_tbl» = 0; «vlan_id» = 0; «new_vlan_id» = 0; «has_mac» = false; «has_group» = false }
-
-unfoldable pub freeGroup : GroupEntry
-freeGroup = record { id = 0; «pop_vlan» = false; «member_count» = 0; members = replicate 62 0 }
-
 -- ---- Tables
 
 -- The tables as the rules see them: the live entries, in rising order of key
@@ -68,22 +61,33 @@ pub record Tables : Type 0 where
 unfoldable pub emptyTables : Tables
 emptyTables = record { flows = []; groups = [] }
 
--- the live entries of a table in the device: the first `count` of its entry slots; the others are free
-unfoldable pub liveFlows : FlowTable → List FlowEntry
-liveFlows t = take (t .count) (t .entries)
+-- The three arrays that hold the places of both tables: a flow is a row of the first, a group a row of each of the other two
+pub record Arrays : Type 0 where
+  pub flows : List (List ℕ)
+  pub heads : List (List ℕ)
+  pub members : List (List ℕ)
 
-unfoldable pub liveGroups : GroupTable → List GroupEntry
-liveGroups t = take (t .count) (t .entries)
+abbrev pub arrays : List (List ℕ) → List (List ℕ) → List (List ℕ) → Arrays
+arrays flows heads members = record { flows = flows; heads = heads; members = members }
 
-unfoldable pub tablesOf : FlowTable → GroupTable → Tables
-tablesOf flows groups = record { flows = liveFlows flows; groups = liveGroups groups }
+-- the entries in the first `count` places of a table; the other places are free
+abbrev pub liveFlows : ℕ → List (List ℕ) → List FlowEntry
+liveFlows count rows = live entryIn (places count rows)
 
--- a fresh device's tables: 256 flow and 128 group entry slots, all free
-unfoldable pub freshFlows : FlowTable
-freshFlows = record { count = 0; entries = replicate 256 freeFlow }
+abbrev pub liveGroups : ℕ → List (List ℕ) → List (List ℕ) → List GroupEntry
+liveGroups count heads members = live groupIn (places count (beside heads members))
 
-unfoldable pub freshGroups : GroupTable
-freshGroups = record { count = 0; entries = replicate 128 freeGroup }
+unfoldable pub tablesOf : Counts → Arrays → Tables
+tablesOf c a =
+    record { flows = liveFlows (c .flows) (a .flows); groups = liveGroups (c .groups) (a .heads) (a .members) }
+
+-- no place is live
+unfoldable pub noneLive : Counts
+noneLive = record { flows = 0; groups = 0 }
+
+-- a fresh device's arrays: 256 flow places and 128 group places, every word 0
+unfoldable pub freshArrays : Arrays
+freshArrays = arrays (replicate 256 (replicate 16 0)) (replicate 128 (replicate 3 0)) (replicate 128 (replicate 62 0))
 
 -- ---- Commands
 

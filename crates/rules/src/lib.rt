@@ -36,7 +36,6 @@ pub enum Status {
 // ---- Registers
 
 // The command ring. `base_latch` is the latch (document 01: hold) of BASE_ADDR.
-#[repr(C)]
 pub struct Ring {
     pub base_addr: u64,
     pub base_latch: u32,
@@ -47,7 +46,6 @@ pub struct Ring {
 }
 
 // All that the device keeps besides its tables. `test_reg` and `test_reg64` are the last values written.
-#[repr(C)]
 pub struct Registers {
     pub switch_id: u64,
     pub links: u64,
@@ -196,7 +194,6 @@ pub struct Decoding {
 // ---- Tables
 
 // A stored flow. A field that its table does not have, or that was not given, is 0 and false.
-#[repr(C)]
 pub struct FlowEntry {
     pub cookie: u64,
     pub dst_mac: u64,
@@ -216,7 +213,6 @@ pub struct FlowEntry {
 
 // A stored group. A member has type 0 and the group's VLAN, so its low 16 bits say which it is; those past the count are 0.
 // OUT_PPORT of type 0 is the low 16 bits of the ID.
-#[repr(C)]
 pub struct GroupEntry {
     pub id: u32,
     pub pop_vlan: bool,
@@ -224,24 +220,16 @@ pub struct GroupEntry {
     pub members: [u16; 62],
 }
 
-// Live entries stand at the front, in rising order of their key; the entry slots past the count are free.
-#[repr(C)]
-pub struct FlowTable {
-    pub count: usize,
-    pub entries: [FlowEntry; 256],
+// How many places of each table are live: those at the front of its array, in rising order of their key. The others are free.
+pub struct Counts {
+    pub flows: usize,
+    pub groups: usize,
 }
 
-#[repr(C)]
-pub struct GroupTable {
-    pub count: usize,
-    pub entries: [GroupEntry; 128],
-}
-
-#[repr(C)]
+// The small part of a device. The places of its two tables are arrays that whoever holds the device lends to a call (specs/Rows.antt).
 pub struct Device {
     pub registers: Registers,
-    pub flows: FlowTable,
-    pub groups: GroupTable,
+    pub counts: Counts,
 }
 
 // ---- Calls

@@ -10,8 +10,7 @@ use Rattle.rules.specs.Answers.{code}
 use Rattle.rules.specs.Tables.{addStatus, heldStatus}
 use Rattle.rules.specs.declared.Status.{Status}
 use Rattle.rules.specs.declared.Status.the-variants.{Ok, Enoent, Enomem, Eexist}
-use Rattle.tables.specs.Commands.{Changed}
-use Rattle.tables.proofs.Search.{Sought}
+use Rattle.tables.specs.Commands.{Changed, Sought}
 
 module _ {T A : Type 0} (live : T → List A) {t : T} {effect : List A} where
   -- a status other than OK, and the table as it was

@@ -11,6 +11,7 @@ use lib.ListN.{length, take, drop, getD, set, length-take, drop-of-length-le}
 use lib.Seq.{drop-cons, getD-take, take-set-lt}
 use borrow.Author.Tests.{lt-ltb, le-ltb}
 use Rattle.rules.specs.Keyed.{position, holds, insert, replace, remove}
+use Rattle.tables.specs.Commands.{Sought}
 use Rattle.tables.proofs.Slots.{insertAt, without, Shifted, fill, take-without-end, take-without, holds-lt, insert-at, replace-at, remove-at, take-live}
 
 -- The search for the key k has passed `at` of the n live entries of es, all with lower keys, and found nothing yet
@@ -22,14 +23,6 @@ pub record Searching {A : Type 0} (key : A → ℕ) (slots k n count : ℕ) (es 
   pub position-is : position key k (take count es) ≡ at + position key k (drop at (take count es))
   pub holds-is : holds key k (take count es) ≡ holds key k (drop at (take count es))
   pub inside : n ≤ slots
-
--- The key's position among the live entries l, and whether it stands there
-pub record Sought {A : Type 0} (key : A → ℕ) (slots k n : ℕ) (l : List A) (at : ℕ) (held : Bool) : Type 0 where
-  pub position-is : at ≡ position key k l
-  pub holds-is : holds key k l ≡ held
-  pub live : n ≡ length l
-  pub inside : n ≤ slots
-  pub within : at ≤ n
 
 -- the live entries from a position on: the array's entry there, and the rest
 next : {A : Type 0} (count at : ℕ) (es : List A) (d : A) → at < length (take count es)

@@ -1,149 +1,113 @@
-// The flow table. A command searches and changes one copy of the entries and has one exit, since copies cost the
-// most.
-use crate::FlowChange;
+// The commands on the flow table.
+use crate::Counted;
+use crate::Place;
 use rules::FlowEntry;
-use rules::FlowTable;
 use rules::Status;
 ghost use mathlib.Core.Path.{_≡_};
-ghost use Rattle.rules.specs.Keyed.{insert, replace, remove};
-ghost use Rattle.rules.specs.Tables.{liveFlows, cookieOf, freshFlows, addStatus, heldStatus};
-ghost use Rattle.tables.specs.Commands.{Changed};
+ghost use lib.ListN.{length, take};
+ghost use Rattle.rules.specs.Places.{places, live};
+ghost use Rattle.rules.specs.Rows.{cookieIn, entryIn};
+ghost use Rattle.rules.specs.Tables.{cookieOf};
+ghost use Rattle.tables.specs.Commands.{Sought, Added, Modded, Deleted};
 
-// 256 entry slots, all free.
-pub fn fresh_flows() -> FlowTable
-    ensures { λ r. ⌜ r ≡ freshFlows ⌝ }
+// The first of the live flows whose cookie is not lower, or behind the last. The length of a lent array is told where it is lent as a
+// slice, and nowhere else: `all` is there for that.
+pub(crate) fn flow_find(rows: &[[u32; 16]; 256], count: usize, key: u64) -> Place
+    ensures { λ r. ⌜ (length (now (rows .entry)) ≡ 256) × Sought cookieIn 256 key (r .live) (take count (now (rows .entry))) (r .at) (r .held) ⌝ }
 {
-    let free = FlowEntry {
-        cookie: 0,
-        dst_mac: 0,
-        priority: 0,
-        hardtime: 0,
-        idletime: 0,
-        in_pport: 0,
-        in_pport_mask: 0,
-        group_id: 0,
-        table: 0,
-        goto_tbl: 0,
-        vlan_id: 0,
-        new_vlan_id: 0,
-        has_mac: false,
-        has_group: false,
-    };
-    FlowTable {
-        count: 0,
-        entries: [free; 256],
-    }
-}
-
-// A flow put in before the first that has a higher cookie, those from there on moved up.
-pub fn flow_add(t: FlowTable, e: FlowEntry) -> FlowChange
-    ensures { λ r. ⌜ Changed liveFlows t (addStatus cookieOf 256 (e .cookie) (liveFlows t)) (insert cookieOf e (liveFlows t)) (r .status) (r .table) ⌝ }
-{
-    let mut entries = t.entries;
-    let mut count = t.count;
-    let n = wire::least(t.count, 256);
-    let key = e.cookie;
+    let all = &rows[..];
+    let n = wire::least(count, all.len());
     let mut at: usize = 0;
     let mut held = false;
     while at < n {
-        let f = entries[at];
-        if key <= f.cookie {
-            held = f.cookie == key;
+        let k = rows::join(rows[at][0], rows[at][1]);
+        if key <= k {
+            held = k == key;
             break;
         }
         at += 1;
     }
-    let mut status = Status::Ok;
-    if held {
-        status = Status::Eexist;
-    } else if n < 256 {
-        let mut i = n;
-        while at < i {
-            let j = i - 1;
-            let f = entries[j];
-            entries[i] = f;
-            i = j;
-        }
-        entries[i] = e;
-        count = n + 1;
-    } else {
-        status = Status::Enomem;
-    }
-    FlowChange {
-        status: status,
-        table: FlowTable {
-            count: count,
-            entries: entries,
-        },
+    Place {
+        at: at,
+        live: n,
+        held: held,
     }
 }
 
 // The flow with this cookie replaced.
-pub fn flow_mod(t: FlowTable, e: FlowEntry) -> FlowChange
-    ensures { λ r. ⌜ Changed liveFlows t (heldStatus cookieOf (e .cookie) (liveFlows t)) (replace cookieOf e (liveFlows t)) (r .status) (r .table) ⌝ }
+pub fn flow_mod(rows: &mut [[u32; 16]; 256], count: usize, e: FlowEntry) -> Counted
+    ensures { λ r. ⌜ Modded (live entryIn) cookieOf 256 (places count (now (rows .entry))) e (r .status) (places (r .count) (now (rows .exit))) ⌝ }
 {
-    let mut entries = t.entries;
-    let n = wire::least(t.count, 256);
-    let key = e.cookie;
-    let mut at: usize = 0;
-    let mut held = false;
-    while at < n {
-        let f = entries[at];
-        if key <= f.cookie {
-            held = f.cookie == key;
-            break;
-        }
-        at += 1;
+    let p = flow_find(rows, count, e.cookie);
+    let at = p.at;
+    if p.held {
+        rows[at] = rows::row_of(e);
+        return Counted {
+            status: Status::Ok,
+            count: count,
+        };
     }
-    let mut status = Status::Enoent;
-    if held {
-        entries[at] = e;
-        status = Status::Ok;
+    Counted {
+        status: Status::Enoent,
+        count: count,
     }
-    FlowChange {
-        status: status,
-        table: FlowTable {
-            count: t.count,
-            entries: entries,
-        },
+}
+
+// A flow put in before the first that has a higher cookie, those from there on moved up.
+pub fn flow_add(rows: &mut [[u32; 16]; 256], count: usize, e: FlowEntry) -> Counted
+    ensures { λ r. ⌜ Added (live entryIn) cookieOf 256 (places count (now (rows .entry))) e (r .status) (places (r .count) (now (rows .exit))) ⌝ }
+{
+    let p = flow_find(rows, count, e.cookie);
+    let at = p.at;
+    let n = p.live;
+    if p.held {
+        return Counted {
+            status: Status::Eexist,
+            count: count,
+        };
+    }
+    if 256 <= n {
+        return Counted {
+            status: Status::Enomem,
+            count: count,
+        };
+    }
+    let mut i = n;
+    while at < i {
+        let j = i - 1;
+        let f = rows[j];
+        rows[i] = f;
+        i = j;
+    }
+    rows[i] = rows::row_of(e);
+    Counted {
+        status: Status::Ok,
+        count: n + 1,
     }
 }
 
 // The flow with a cookie taken out, those after it moved down.
-pub fn flow_del(t: FlowTable, cookie: u64) -> FlowChange
-    ensures { λ r. ⌜ Changed liveFlows t (heldStatus cookieOf cookie (liveFlows t)) (remove cookieOf cookie (liveFlows t)) (r .status) (r .table) ⌝ }
+pub fn flow_del(rows: &mut [[u32; 16]; 256], count: usize, cookie: u64) -> Counted
+    ensures { λ r. ⌜ Deleted (live entryIn) cookieOf 256 (places count (now (rows .entry))) cookie (r .status) (places (r .count) (now (rows .exit))) ⌝ }
 {
-    let mut entries = t.entries;
-    let mut count = t.count;
-    let n = wire::least(t.count, 256);
-    let mut at: usize = 0;
-    let mut held = false;
-    while at < n {
-        let f = entries[at];
-        if cookie <= f.cookie {
-            held = f.cookie == cookie;
-            break;
-        }
-        at += 1;
-    }
-    let mut status = Status::Enoent;
-    if held {
+    let p = flow_find(rows, count, cookie);
+    let n = p.live;
+    if p.held {
         let last = n - 1;
-        let mut i = at;
+        let mut i = p.at;
         while i < last {
             let j = i + 1;
-            let f = entries[j];
-            entries[i] = f;
+            let f = rows[j];
+            rows[i] = f;
             i = j;
         }
-        count = last;
-        status = Status::Ok;
+        return Counted {
+            status: Status::Ok,
+            count: last,
+        };
     }
-    FlowChange {
-        status: status,
-        table: FlowTable {
-            count: count,
-            entries: entries,
-        },
+    Counted {
+        status: Status::Enoent,
+        count: count,
     }
 }

@@ -1,139 +1,141 @@
-// The group table. A command searches and changes one copy of the entries and has one exit, since copies cost the
-// most.
-use crate::GroupChange;
+// The commands on the group table. A group stands in two arrays at one index: its head, and its 62 members, which are stored whole.
+use crate::Counted;
+use crate::Place;
 use rules::GroupEntry;
-use rules::GroupTable;
 use rules::Status;
 ghost use mathlib.Core.Path.{_≡_};
-ghost use Rattle.rules.specs.Keyed.{insert, replace, remove};
-ghost use Rattle.rules.specs.Tables.{liveGroups, idOf, freshGroups, addStatus, heldStatus};
-ghost use Rattle.tables.specs.Commands.{Changed};
+ghost use lib.ListN.{length, take};
+ghost use Rattle.rules.specs.Rows.{idIn};
+ghost use Rattle.rules.specs.Tables.{idOf};
+ghost use Rattle.tables.specs.Commands.{Sought, Added, Modded, Deleted};
+ghost use Rattle.tables.specs.Groups.{groupPlaces, groupsIn};
 
-// 128 entry slots, all free.
-pub fn fresh_groups() -> GroupTable
-    ensures { λ r. ⌜ r ≡ freshGroups ⌝ }
+// The first of the live groups whose ID is not lower, or behind the last. Only heads are read; both lengths are told.
+pub(crate) fn group_find(
+    heads: &[[u32; 3]; 128],
+    members: &[[u16; 62]; 128],
+    count: usize,
+    key: u32,
+) -> Place
+    ensures { λ r. ⌜ (length (now (heads .entry)) ≡ 128) × (length (now (members .entry)) ≡ 128) × Sought idIn 128 key (r .live) (take count (now (heads .entry))) (r .at) (r .held) ⌝ }
 {
-    let free = GroupEntry {
-        id: 0,
-        pop_vlan: false,
-        member_count: 0,
-        members: [0; 62],
-    };
-    GroupTable {
-        count: 0,
-        entries: [free; 128],
-    }
-}
-
-// A group put in before the first that has a higher ID, those from there on moved up.
-pub fn group_add(t: GroupTable, e: GroupEntry) -> GroupChange
-    ensures { λ r. ⌜ Changed liveGroups t (addStatus idOf 128 (e .id) (liveGroups t)) (insert idOf e (liveGroups t)) (r .status) (r .table) ⌝ }
-{
-    let mut entries = t.entries;
-    let mut count = t.count;
-    let n = wire::least(t.count, 128);
-    let key = e.id;
+    let all = &heads[..];
+    let beside_them = &members[..];
+    let n = wire::least(count, all.len());
     let mut at: usize = 0;
     let mut held = false;
     while at < n {
-        let g = entries[at];
-        if key <= g.id {
-            held = g.id == key;
+        let k = heads[at][0];
+        if key <= k {
+            held = k == key;
             break;
         }
         at += 1;
     }
-    let mut status = Status::Ok;
-    if held {
-        status = Status::Eexist;
-    } else if n < 128 {
-        let mut i = n;
-        while at < i {
-            let j = i - 1;
-            let g = entries[j];
-            entries[i] = g;
-            i = j;
-        }
-        entries[i] = e;
-        count = n + 1;
-    } else {
-        status = Status::Enomem;
-    }
-    GroupChange {
-        status: status,
-        table: GroupTable {
-            count: count,
-            entries: entries,
-        },
+    Place {
+        at: at,
+        live: n,
+        held: held,
     }
 }
 
 // The group with this ID replaced.
-pub fn group_mod(t: GroupTable, e: GroupEntry) -> GroupChange
-    ensures { λ r. ⌜ Changed liveGroups t (heldStatus idOf (e .id) (liveGroups t)) (replace idOf e (liveGroups t)) (r .status) (r .table) ⌝ }
+pub fn group_mod(
+    heads: &mut [[u32; 3]; 128],
+    members: &mut [[u16; 62]; 128],
+    count: usize,
+    g: GroupEntry,
+) -> Counted
+    ensures { λ r. ⌜ Modded groupsIn idOf 128 (groupPlaces count (now (heads .entry)) (now (members .entry))) g (r .status) (groupPlaces (r .count) (now (heads .exit)) (now (members .exit))) ⌝ }
 {
-    let mut entries = t.entries;
-    let n = wire::least(t.count, 128);
-    let key = e.id;
-    let mut at: usize = 0;
-    let mut held = false;
-    while at < n {
-        let g = entries[at];
-        if key <= g.id {
-            held = g.id == key;
-            break;
-        }
-        at += 1;
+    let p = group_find(heads, members, count, g.id);
+    let at = p.at;
+    if p.held {
+        heads[at] = rows::head_of(g);
+        let lows = g.members;
+        members[at] = lows;
+        return Counted {
+            status: Status::Ok,
+            count: count,
+        };
     }
-    let mut status = Status::Enoent;
-    if held {
-        entries[at] = e;
-        status = Status::Ok;
+    Counted {
+        status: Status::Enoent,
+        count: count,
     }
-    GroupChange {
-        status: status,
-        table: GroupTable {
-            count: t.count,
-            entries: entries,
-        },
+}
+
+// A group put in before the first that has a higher ID, those from there on moved up.
+pub fn group_add(
+    heads: &mut [[u32; 3]; 128],
+    members: &mut [[u16; 62]; 128],
+    count: usize,
+    g: GroupEntry,
+) -> Counted
+    ensures { λ r. ⌜ Added groupsIn idOf 128 (groupPlaces count (now (heads .entry)) (now (members .entry))) g (r .status) (groupPlaces (r .count) (now (heads .exit)) (now (members .exit))) ⌝ }
+{
+    let p = group_find(heads, members, count, g.id);
+    let at = p.at;
+    let n = p.live;
+    if p.held {
+        return Counted {
+            status: Status::Eexist,
+            count: count,
+        };
+    }
+    if 128 <= n {
+        return Counted {
+            status: Status::Enomem,
+            count: count,
+        };
+    }
+    let mut i = n;
+    while at < i {
+        let j = i - 1;
+        let h = heads[j];
+        heads[i] = h;
+        let m = members[j];
+        members[i] = m;
+        i = j;
+    }
+    heads[i] = rows::head_of(g);
+    let lows = g.members;
+    members[i] = lows;
+    Counted {
+        status: Status::Ok,
+        count: n + 1,
     }
 }
 
 // The group with an ID taken out, those after it moved down.
-pub fn group_del(t: GroupTable, id: u32) -> GroupChange
-    ensures { λ r. ⌜ Changed liveGroups t (heldStatus idOf id (liveGroups t)) (remove idOf id (liveGroups t)) (r .status) (r .table) ⌝ }
+pub fn group_del(
+    heads: &mut [[u32; 3]; 128],
+    members: &mut [[u16; 62]; 128],
+    count: usize,
+    id: u32,
+) -> Counted
+    ensures { λ r. ⌜ Deleted groupsIn idOf 128 (groupPlaces count (now (heads .entry)) (now (members .entry))) id (r .status) (groupPlaces (r .count) (now (heads .exit)) (now (members .exit))) ⌝ }
 {
-    let mut entries = t.entries;
-    let mut count = t.count;
-    let n = wire::least(t.count, 128);
-    let mut at: usize = 0;
-    let mut held = false;
-    while at < n {
-        let g = entries[at];
-        if id <= g.id {
-            held = g.id == id;
-            break;
-        }
-        at += 1;
-    }
-    let mut status = Status::Enoent;
-    if held {
+    let p = group_find(heads, members, count, id);
+    let n = p.live;
+    if p.held {
         let last = n - 1;
-        let mut i = at;
+        let mut i = p.at;
         while i < last {
             let j = i + 1;
-            let g = entries[j];
-            entries[i] = g;
+            let h = heads[j];
+            heads[i] = h;
+            let m = members[j];
+            members[i] = m;
             i = j;
         }
-        count = last;
-        status = Status::Ok;
+        return Counted {
+            status: Status::Ok,
+            count: last,
+        };
     }
-    GroupChange {
-        status: status,
-        table: GroupTable {
-            count: count,
-            entries: entries,
-        },
+    Counted {
+        status: Status::Enoent,
+        count: count,
     }
 }

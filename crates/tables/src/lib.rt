@@ -1,7 +1,8 @@
-// The flow table and the group table: fresh, and after each command.
-use rules::FlowTable;
-use rules::GroupTable;
+// The flow table and the group table, changed where they stand: the caller lends the arrays of their places. A command finds the place of
+// its key and changes that place, and those behind it where an entry is put in or taken out.
 use rules::Status;
+ghost use mathlib.Core.Path.{_≡_};
+ghost use Rattle.rules.specs.Tables.{arrays, freshArrays};
 
 mod flows;
 mod groups;
@@ -9,19 +10,32 @@ mod groups;
 pub use flows::flow_add;
 pub use flows::flow_del;
 pub use flows::flow_mod;
-pub use flows::fresh_flows;
-pub use groups::fresh_groups;
 pub use groups::group_add;
 pub use groups::group_del;
 pub use groups::group_mod;
 
-// A command's status, and the table after it.
-pub struct FlowChange {
-    pub status: Status,
-    pub table: FlowTable,
+// Where a key belongs among the live entries, how many these are, and whether it stands there.
+pub struct Place {
+    pub at: usize,
+    pub live: usize,
+    pub held: bool,
 }
 
-pub struct GroupChange {
+// A command's status, and the number of live entries after it.
+pub struct Counted {
     pub status: Status,
-    pub table: GroupTable,
+    pub count: usize,
+}
+
+// 256 flow places and 128 group places, all free: every word is 0, so that nothing of what stood there is left.
+pub fn clear(
+    flows: &mut [[u32; 16]; 256],
+    heads: &mut [[u32; 3]; 128],
+    members: &mut [[u16; 62]; 128],
+)
+    ensures { λ _. ⌜ arrays (now (flows .exit)) (now (heads .exit)) (now (members .exit)) ≡ freshArrays ⌝ }
+{
+    *flows = [[0; 16]; 256];
+    *heads = [[0; 3]; 128];
+    *members = [[0; 62]; 128];
 }

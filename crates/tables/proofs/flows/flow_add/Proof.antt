@@ -1,107 +1,79 @@
--- `tables::flows::flow_add` meets its contract. The search passes entries with lower keys; the shift moves the free entry slot
--- from behind the live entries down to the key's position.
+-- `tables::flows::flow_add` meets its contract.
 -- Assumes nothing.
-use Prim.Native.Nat.{_-_}
-use mathlib.Core.Logic.{⊎-elim}
-use native.Mathlib.Omega.{arith}
 use borrow.Author.Needs.{needs}
-use Rattle.rules.specs.Tables.{liveFlows, cookieOf}
-use Rattle.rules.proofs.Arrays.{length-mapped}
+use mathlib.Core.List.{[]}
 use Rattle.tables.proofs.Slots.{Shifted, unshifted, shift-down}
-use Rattle.tables.proofs.Search.{Searching, Sought, begin, pass, stop, end, inserted}
-use Rattle.tables.proofs.Commands.{add-held, add-full, add-done}
+use mathlib.Core.Path.{refl}
+use Rattle.rules.specs.Places.{live, places}
+use Rattle.rules.specs.Tables.{cookieOf}
+use Rattle.rules.specs.Rows.{entryIn}
+use Rattle.tables.proofs.InPlace.{added, twice, full}
+use native.Mathlib.Omega.{arith}
 use Rattle.tables.proofs.flows.flow_add.Statement.{statement}
 use Rattle.tables.proofs.flows.flow_add.Tie as tie
 
 abbrev Inv-loop : tie.InvT-loop
-Inv-loop e entries count n key at₀ held₀ at held = Searching cookieOf 256 key n count entries at held
+Inv-loop rows₀ count e at n i₀ rows i = Shifted 256 at n n i rows₀ rows
 
 abbrev μ-loop : tie.MeasureT-loop
-μ-loop e entries count n key at₀ held₀ at held = n - at
+μ-loop rows₀ count e at n i₀ rows i = i
 
-abbrev Inv-loop2 : tie.InvT-loop2
-Inv-loop2 e entries₀ count n key at held status i₀ entries i = Shifted 256 at n n i entries₀ entries
+flow-find-requires : tie.Need-flow-find-requires Inv-loop μ-loop
+flow-find-requires c κs = search needs
 
-abbrev μ-loop2 : tie.MeasureT-loop2
-μ-loop2 e entries₀ count n key at held status i₀ entries i = i
+returns : tie.Need-returns Inv-loop μ-loop
+unfolding entryIn
+returns c = twice (live entryIn) entryIn cookieOf 256 _ _ _ refl (c .before .flow-find .ensures .1) (c .if1 .taken)
 
-least-requires : tie.Need-least-requires Inv-loop μ-loop Inv-loop2 μ-loop2
-least-requires c κs = search needs
+returns-2 : tie.Need-returns-2 Inv-loop μ-loop
+unfolding entryIn
+returns-2 c = full (live entryIn) entryIn cookieOf 256 _ _ _ refl (c .before .before .flow-find .ensures .1) (c .before .if1 .left) (c .if2 .taken)
 
-loop-holds : tie.Need-loop-holds Inv-loop μ-loop Inv-loop2 μ-loop2
-loop-holds c = begin cookieOf (search (needs, length-mapped)) (c .least .ensures)
+loop-holds : tie.Need-loop-holds Inv-loop μ-loop
+loop-holds c =
+    let f = c .before .before .flow-find .ensures in
+    unshifted (f .0) (f .1 .within) (omega arith) (omega arith)
 
-mul-f : tie.Need-mul-f Inv-loop μ-loop Inv-loop2 μ-loop2
-mul-f c = search needs
-
-array-copy-out-f : tie.Need-array-copy-out-f Inv-loop μ-loop Inv-loop2 μ-loop2
-array-copy-out-f c = search needs
-
-add-at : tie.Need-add-at Inv-loop μ-loop Inv-loop2 μ-loop2
-add-at c = search needs
-
-loop-less : tie.Need-loop-less Inv-loop μ-loop Inv-loop2 μ-loop2
-loop-less c = search needs
-
-loop-again : tie.Need-loop-again Inv-loop μ-loop Inv-loop2 μ-loop2
-loop-again c = pass cookieOf (c .before .before .before .before .loop .inv) _ (c .before .before .before .loop-test .taken) (c .if1 .left)
-
--- the key's position, and whether it stands there
-found : (c : tie.Left-loop Inv-loop μ-loop Inv-loop2 μ-loop2)
-    → Sought cookieOf 256 (c .before .before .before .before .args .e .cookie) (c .before .before .least .result) (liveFlows (c .before .before .before .before .args .t)) (c .before .loop .at) (c .loop-test .held)
-unfolding liveFlows
-found c =
-    let s = c .before .loop .inv in
-    ⊎-elim (λ w. end cookieOf s (w .0 .left) (w .1)) (λ w. stop cookieOf s _ (w .0 .taken) (w .3 .taken) (w .5)) (c .loop-test .came)
-
-loop2-holds : tie.Need-loop2-holds Inv-loop μ-loop Inv-loop2 μ-loop2
-loop2-holds c =
-    let s = c .before .before .before .loop .inv in
-    unshifted (s .size) (s .within) (omega arith) (c .if3 .taken)
-
-sub-j : tie.Need-sub-j Inv-loop μ-loop Inv-loop2 μ-loop2
+sub-j : tie.Need-sub-j Inv-loop μ-loop
 sub-j c = search needs
 
-mul-f-2 : tie.Need-mul-f-2 Inv-loop μ-loop Inv-loop2 μ-loop2
+mul-f : tie.Need-mul-f Inv-loop μ-loop
+mul-f c = search needs
+
+element-copy-out-f : tie.Need-element-copy-out-f Inv-loop μ-loop
+element-copy-out-f c = search needs
+
+mul-f-2 : tie.Need-mul-f-2 Inv-loop μ-loop
 mul-f-2 c = search needs
 
-array-copy-out-f-2 : tie.Need-array-copy-out-f-2 Inv-loop μ-loop Inv-loop2 μ-loop2
-array-copy-out-f-2 c = search needs
+element-set-from-f : tie.Need-element-set-from-f Inv-loop μ-loop
+element-set-from-f c = search needs
 
-mul-entries : tie.Need-mul-entries Inv-loop μ-loop Inv-loop2 μ-loop2
-mul-entries c = search needs
+loop-less : tie.Need-loop-less Inv-loop μ-loop
+loop-less c = search needs
 
-array-set-from-entries : tie.Need-array-set-from-entries Inv-loop μ-loop Inv-loop2 μ-loop2
-array-set-from-entries c = search needs
+loop-again : tie.Need-loop-again Inv-loop μ-loop
+loop-again c = shift-down [] (c .before .before .loop .inv) (c .before .loop-test .taken)
 
-loop2-less : tie.Need-loop2-less Inv-loop μ-loop Inv-loop2 μ-loop2
-loop2-less c = search needs
+row-of-requires : tie.Need-row-of-requires Inv-loop μ-loop
+row-of-requires c κs = search needs
 
-loop2-again : tie.Need-loop2-again Inv-loop μ-loop Inv-loop2 μ-loop2
-loop2-again c = shift-down _ (c .before .before .loop2 .inv) (c .before .loop2-test .taken)
+mul-t22 : tie.Need-mul-t22 Inv-loop μ-loop
+mul-t22 c = search needs
 
-mul-entries-2 : tie.Need-mul-entries-2 Inv-loop μ-loop Inv-loop2 μ-loop2
-mul-entries-2 c = search needs
+element-set-from-rows : tie.Need-element-set-from-rows Inv-loop μ-loop
+element-set-from-rows c = search needs
 
-array-set-from-entries-2 : tie.Need-array-set-from-entries-2 Inv-loop μ-loop Inv-loop2 μ-loop2
-array-set-from-entries-2 c = search needs
+add-t22 : tie.Need-add-t22 Inv-loop μ-loop
+add-t22 c = search needs
 
-add-count : tie.Need-add-count Inv-loop μ-loop Inv-loop2 μ-loop2
-add-count c = search needs
-
-returns : tie.Need-returns Inv-loop μ-loop Inv-loop2 μ-loop2
-returns c = add-held liveFlows (found (c .before)) (c .if2 .taken)
-
-returns-2 : tie.Need-returns-2 Inv-loop μ-loop Inv-loop2 μ-loop2
-unfolding liveFlows
-returns-2 c =
-    let l = c .before .before .before .before in
-    let a = l .before .before .before .before .args in
-    add-done liveFlows (found l) (c .before .before .before .if2 .left) (c .before .before .if3 .taken)
-    (inserted cookieOf (a .t .count) (a .e) (found l) (c .before .loop2 .inv) (c .loop2-test .left))
-
-returns-3 : tie.Need-returns-3 Inv-loop μ-loop Inv-loop2 μ-loop2
-returns-3 c = add-full liveFlows (found (c .before .before)) (c .before .if2 .left) (c .if3 .left)
+returns-3 : tie.Need-returns-3 Inv-loop μ-loop
+unfolding entryIn
+returns-3 c =
+    let l = c .before .before in
+    let f = l .before .before .before in
+    let a = f .before .before .args in
+    added (live entryIn) entryIn cookieOf 256 _ (a .count) (a .rows .now) refl _ (c .row-of .ensures) (f .flow-find .ensures .1) refl (l .before .before .if1 .left) (omega arith) (l .loop .inv) (c .before .loop-test .left)
 
 pub flow-add-spec : {M : Type 1} → statement M
 flow-add-spec =
@@ -109,26 +81,19 @@ flow-add-spec =
     (tie.spec
     Inv-loop
     μ-loop
-    Inv-loop2
-    μ-loop2
-    least-requires
-    loop-holds
-    mul-f
-    array-copy-out-f
-    add-at
-    loop-less
-    loop-again
-    loop2-holds
-    sub-j
-    mul-f-2
-    array-copy-out-f-2
-    mul-entries
-    array-set-from-entries
-    loop2-less
-    loop2-again
-    mul-entries-2
-    array-set-from-entries-2
-    add-count
+    flow-find-requires
     returns
     returns-2
+    loop-holds
+    sub-j
+    mul-f
+    element-copy-out-f
+    mul-f-2
+    element-set-from-f
+    loop-less
+    loop-again
+    row-of-requires
+    mul-t22
+    element-set-from-rows
+    add-t22
     returns-3)

@@ -1,99 +1,69 @@
--- `tables::flows::flow_del` meets its contract. The search passes entries with lower keys; the shift moves the free entry slot
--- from the key's position up to the last live entry.
+-- `tables::flows::flow_del` meets its contract.
 -- Assumes nothing.
+use borrow.Author.Needs.{needs}
 use Prim.Native.Nat.{_-_}
 use mathlib.Core.Path.{refl}
-use mathlib.Core.Logic.{⊎-elim}
-use native.Mathlib.Omega.{arith}
-use borrow.Author.Needs.{needs}
-use Rattle.rules.specs.Tables.{liveFlows, cookieOf}
-use Rattle.rules.proofs.Arrays.{length-mapped}
+use mathlib.Core.List.{[]}
 use Rattle.tables.proofs.Slots.{Shifted, unshifted, shift-up}
-use Rattle.tables.proofs.Search.{Searching, Sought, begin, pass, stop, end, held-lt, removed}
-use Rattle.tables.proofs.Commands.{not-held, held-done}
+use Rattle.tables.proofs.Search.{held-lt}
+use Rattle.rules.specs.Places.{live, places}
+use Rattle.rules.specs.Tables.{cookieOf}
+use Rattle.rules.specs.Rows.{entryIn}
+use Rattle.tables.proofs.InPlace.{deleted, absent}
+use native.Mathlib.Omega.{arith}
 use Rattle.tables.proofs.flows.flow_del.Statement.{statement}
 use Rattle.tables.proofs.flows.flow_del.Tie as tie
 
 abbrev Inv-loop : tie.InvT-loop
-Inv-loop cookie entries count n at₀ held₀ at held = Searching cookieOf 256 cookie n count entries at held
+Inv-loop rows₀ count cookie n last i₀ rows i = Shifted 256 i₀ last i₀ i rows₀ rows
 
 abbrev μ-loop : tie.MeasureT-loop
-μ-loop cookie entries count n at₀ held₀ at held = n - at
+μ-loop rows₀ count cookie n last i₀ rows i = last - i
 
-abbrev Inv-loop2 : tie.InvT-loop2
-Inv-loop2 cookie entries₀ count n at held last i₀ entries i = Shifted 256 at last at i entries₀ entries
+flow-find-requires : tie.Need-flow-find-requires Inv-loop μ-loop
+flow-find-requires c κs = search needs
 
-abbrev μ-loop2 : tie.MeasureT-loop2
-μ-loop2 cookie entries₀ count n at held last i₀ entries i = last - i
+sub-last : tie.Need-sub-last Inv-loop μ-loop
+sub-last c = omega (arith, held-lt (c .before .flow-find .ensures .1) (c .if1 .taken))
 
-least-requires : tie.Need-least-requires Inv-loop μ-loop Inv-loop2 μ-loop2
-least-requires c κs = search needs
+loop-holds : tie.Need-loop-holds Inv-loop μ-loop
+loop-holds c =
+    let f = c .before .flow-find .ensures in
+    let h = held-lt (f .1) (c .if1 .taken) in
+    unshifted (f .0) (omega arith) (omega arith) (omega (arith, f .1 .inside))
 
-loop-holds : tie.Need-loop-holds Inv-loop μ-loop Inv-loop2 μ-loop2
-loop-holds c = begin cookieOf (search (needs, length-mapped)) (c .least .ensures)
-
-mul-f : tie.Need-mul-f Inv-loop μ-loop Inv-loop2 μ-loop2
-mul-f c = search needs
-
-array-copy-out-f : tie.Need-array-copy-out-f Inv-loop μ-loop Inv-loop2 μ-loop2
-array-copy-out-f c = search needs
-
-add-at : tie.Need-add-at Inv-loop μ-loop Inv-loop2 μ-loop2
-add-at c = search needs
-
-loop-less : tie.Need-loop-less Inv-loop μ-loop Inv-loop2 μ-loop2
-loop-less c = search needs
-
-loop-again : tie.Need-loop-again Inv-loop μ-loop Inv-loop2 μ-loop2
-loop-again c = pass cookieOf (c .before .before .before .before .loop .inv) _ (c .before .before .before .loop-test .taken) (c .if1 .left)
-
--- the key's position, and whether it stands there
-found : (c : tie.Left-loop Inv-loop μ-loop Inv-loop2 μ-loop2)
-    → Sought cookieOf 256 (c .before .before .before .before .args .cookie) (c .before .before .least .result) (liveFlows (c .before .before .before .before .args .t)) (c .before .loop .at) (c .loop-test .held)
-unfolding liveFlows
-found c =
-    let s = c .before .loop .inv in
-    ⊎-elim (λ w. end cookieOf s (w .0 .left) (w .1)) (λ w. stop cookieOf s _ (w .0 .taken) (w .3 .taken) (w .5)) (c .loop-test .came)
-
-sub-last : tie.Need-sub-last Inv-loop μ-loop Inv-loop2 μ-loop2
-sub-last c = omega (arith, held-lt (found (c .before)) (c .if2 .taken))
-
-loop2-holds : tie.Need-loop2-holds Inv-loop μ-loop Inv-loop2 μ-loop2
-loop2-holds c =
-    let s = c .before .before .loop .inv in
-    let h = held-lt (found (c .before)) (c .if2 .taken) in
-    unshifted (s .size) (omega arith) (omega arith) (omega arith)
-
-add-j : tie.Need-add-j Inv-loop μ-loop Inv-loop2 μ-loop2
+add-j : tie.Need-add-j Inv-loop μ-loop
 add-j c = search needs
 
-mul-f-2 : tie.Need-mul-f-2 Inv-loop μ-loop Inv-loop2 μ-loop2
+mul-f : tie.Need-mul-f Inv-loop μ-loop
+mul-f c = search needs
+
+element-copy-out-f : tie.Need-element-copy-out-f Inv-loop μ-loop
+element-copy-out-f c = search needs
+
+mul-f-2 : tie.Need-mul-f-2 Inv-loop μ-loop
 mul-f-2 c = search needs
 
-array-copy-out-f-2 : tie.Need-array-copy-out-f-2 Inv-loop μ-loop Inv-loop2 μ-loop2
-array-copy-out-f-2 c = search needs
+element-set-from-f : tie.Need-element-set-from-f Inv-loop μ-loop
+element-set-from-f c = search needs
 
-mul-entries : tie.Need-mul-entries Inv-loop μ-loop Inv-loop2 μ-loop2
-mul-entries c = search needs
+loop-less : tie.Need-loop-less Inv-loop μ-loop
+loop-less c = search needs
 
-array-set-from-entries : tie.Need-array-set-from-entries Inv-loop μ-loop Inv-loop2 μ-loop2
-array-set-from-entries c = search needs
+loop-again : tie.Need-loop-again Inv-loop μ-loop
+loop-again c = shift-up [] (c .before .before .loop .inv) (c .before .loop-test .taken)
 
-loop2-less : tie.Need-loop2-less Inv-loop μ-loop Inv-loop2 μ-loop2
-loop2-less c = search needs
-
-loop2-again : tie.Need-loop2-again Inv-loop μ-loop Inv-loop2 μ-loop2
-loop2-again c = shift-up _ (c .before .before .loop2 .inv) (c .before .loop2-test .taken)
-
-returns : tie.Need-returns Inv-loop μ-loop Inv-loop2 μ-loop2
-unfolding liveFlows
+returns : tie.Need-returns Inv-loop μ-loop
+unfolding entryIn
 returns c =
-    let l = c .before .before .before in
-    let h = c .before .before .if2 .taken in
-    held-done liveFlows (found l) h (removed cookieOf (l .before .before .before .before .args .t .count) (found l) h refl (c .before .loop2 .inv) (c .loop2-test .left))
+    let l = c .before in
+    let f = l .before .before in
+    let a = f .before .before .args in
+    deleted (live entryIn) entryIn cookieOf 256 _ (a .count) (a .rows .now) refl (f .flow-find .ensures .1) refl (l .before .if1 .taken) refl (l .loop .inv) (c .loop-test .left)
 
-returns-2 : tie.Need-returns-2 Inv-loop μ-loop Inv-loop2 μ-loop2
-returns-2 c = not-held liveFlows (found (c .before)) (c .if2 .left)
+returns-2 : tie.Need-returns-2 Inv-loop μ-loop
+unfolding entryIn
+returns-2 c = absent (live entryIn) entryIn cookieOf 256 _ _ _ refl (c .before .flow-find .ensures .1) (c .if1 .left)
 
 pub flow-del-spec : {M : Type 1} → statement M
 flow-del-spec =
@@ -101,23 +71,15 @@ flow-del-spec =
     (tie.spec
     Inv-loop
     μ-loop
-    Inv-loop2
-    μ-loop2
-    least-requires
+    flow-find-requires
+    sub-last
     loop-holds
+    add-j
     mul-f
-    array-copy-out-f
-    add-at
+    element-copy-out-f
+    mul-f-2
+    element-set-from-f
     loop-less
     loop-again
-    sub-last
-    loop2-holds
-    add-j
-    mul-f-2
-    array-copy-out-f-2
-    mul-entries
-    array-set-from-entries
-    loop2-less
-    loop2-again
     returns
     returns-2)

@@ -1,107 +1,112 @@
--- `tables::groups::group_add` meets its contract. The search passes entries with lower keys; the shift moves the free entry slot
--- from behind the live entries down to the key's position.
+-- `tables::groups::group_add` meets its contract.
 -- Assumes nothing.
-use Prim.Native.Nat.{_-_}
-use mathlib.Core.Logic.{⊎-elim}
-use native.Mathlib.Omega.{arith}
+use mathlib.Core.Path.{refl}
+use lib.ListN.{take}
+use Rattle.rules.specs.Tables.{idOf}
+use Rattle.rules.specs.Rows.{groupIn, beside}
+use Rattle.rules.proofs.Mapped.{rowKey}
+use Rattle.tables.specs.Commands.{Sought}
+use Rattle.tables.specs.Groups.{groupsIn}
+use Rattle.tables.proofs.Beside.{Shifting, unshifted-both, shift-both-down, sought-beside, stored-group}
+use Rattle.tables.proofs.InPlace.{added, twice, full}
 use borrow.Author.Needs.{needs}
-use Rattle.rules.specs.Tables.{liveGroups, idOf}
-use Rattle.rules.proofs.Arrays.{length-mapped}
-use Rattle.tables.proofs.Slots.{Shifted, unshifted, shift-down}
-use Rattle.tables.proofs.Search.{Searching, Sought, begin, pass, stop, end, inserted}
-use Rattle.tables.proofs.Commands.{add-held, add-full, add-done}
+use native.Mathlib.Omega.{arith}
 use Rattle.tables.proofs.groups.group_add.Statement.{statement}
 use Rattle.tables.proofs.groups.group_add.Tie as tie
 
 abbrev Inv-loop : tie.InvT-loop
-Inv-loop e entries count n key at₀ held₀ at held = Searching idOf 128 key n count entries at held
+Inv-loop heads₀ members₀ count g at n i₀ heads members i = Shifting at n n i heads₀ members₀ heads members
 
 abbrev μ-loop : tie.MeasureT-loop
-μ-loop e entries count n key at₀ held₀ at held = n - at
+μ-loop heads₀ members₀ count g at n i₀ heads members i = i
 
-abbrev Inv-loop2 : tie.InvT-loop2
-Inv-loop2 e entries₀ count n key at held status i₀ entries i = Shifted 128 at n n i entries₀ entries
+group-find-requires : tie.Need-group-find-requires Inv-loop μ-loop
+group-find-requires c κs = search needs
 
-abbrev μ-loop2 : tie.MeasureT-loop2
-μ-loop2 e entries₀ count n key at held status i₀ entries i = i
-
-least-requires : tie.Need-least-requires Inv-loop μ-loop Inv-loop2 μ-loop2
-least-requires c κs = search needs
-
-loop-holds : tie.Need-loop-holds Inv-loop μ-loop Inv-loop2 μ-loop2
-loop-holds c = begin idOf (search (needs, length-mapped)) (c .least .ensures)
-
-mul-g : tie.Need-mul-g Inv-loop μ-loop Inv-loop2 μ-loop2
-mul-g c = search needs
-
-array-copy-out-g : tie.Need-array-copy-out-g Inv-loop μ-loop Inv-loop2 μ-loop2
-array-copy-out-g c = search needs
-
-add-at : tie.Need-add-at Inv-loop μ-loop Inv-loop2 μ-loop2
-add-at c = search needs
-
-loop-less : tie.Need-loop-less Inv-loop μ-loop Inv-loop2 μ-loop2
-loop-less c = search needs
-
-loop-again : tie.Need-loop-again Inv-loop μ-loop Inv-loop2 μ-loop2
-loop-again c = pass idOf (c .before .before .before .before .loop .inv) _ (c .before .before .before .loop-test .taken) (c .if1 .left)
-
--- the key's position, and whether it stands there
-found : (c : tie.Left-loop Inv-loop μ-loop Inv-loop2 μ-loop2)
-    → Sought idOf 128 (c .before .before .before .before .args .e .id) (c .before .before .least .result) (liveGroups (c .before .before .before .before .args .t)) (c .before .loop .at) (c .loop-test .held)
-unfolding liveGroups
+-- the search, among the groups
+found : (c : tie.After-group-find Inv-loop μ-loop)
+    → Sought (rowKey groupIn idOf) 128 (c .before .before .before .args .g .id) (c .group-find .result .live) (take (c .before .before .before .args .count) (beside (c .before .before .before .args .heads .now) (c .before .before .before .args .members .now))) (c .group-find .result .at) (c .group-find .result .held)
 found c =
-    let s = c .before .loop .inv in
-    ⊎-elim (λ w. end idOf s (w .0 .left) (w .1)) (λ w. stop idOf s _ (w .0 .taken) (w .3 .taken) (w .5)) (c .loop-test .came)
+    let a = c .before .before .before .args in
+    let e = c .group-find .ensures in
+    sought-beside (a .count) (a .heads .now) (a .members .now) (e .0) (e .1) (e .2)
 
-loop2-holds : tie.Need-loop2-holds Inv-loop μ-loop Inv-loop2 μ-loop2
-loop2-holds c =
-    let s = c .before .before .before .loop .inv in
-    unshifted (s .size) (s .within) (omega arith) (c .if3 .taken)
+returns : tie.Need-returns Inv-loop μ-loop
+unfolding groupsIn
+returns c = twice groupsIn groupIn idOf 128 _ _ _ refl (found (c .before)) (c .if1 .taken)
 
-sub-j : tie.Need-sub-j Inv-loop μ-loop Inv-loop2 μ-loop2
+returns-2 : tie.Need-returns-2 Inv-loop μ-loop
+unfolding groupsIn
+returns-2 c = full groupsIn groupIn idOf 128 _ _ _ refl (found (c .before .before)) (c .before .if1 .left) (c .if2 .taken)
+
+loop-holds : tie.Need-loop-holds Inv-loop μ-loop
+loop-holds c =
+    let e = c .before .before .group-find .ensures in
+    unshifted-both (e .0) (e .1) (e .2 .within) (omega arith) (omega arith)
+
+sub-j : tie.Need-sub-j Inv-loop μ-loop
 sub-j c = search needs
 
-mul-g-2 : tie.Need-mul-g-2 Inv-loop μ-loop Inv-loop2 μ-loop2
-mul-g-2 c = search needs
+mul-h : tie.Need-mul-h Inv-loop μ-loop
+mul-h c = search needs
 
-array-copy-out-g-2 : tie.Need-array-copy-out-g-2 Inv-loop μ-loop Inv-loop2 μ-loop2
-array-copy-out-g-2 c = search needs
+element-copy-out-h : tie.Need-element-copy-out-h Inv-loop μ-loop
+element-copy-out-h c = search needs
 
-mul-entries : tie.Need-mul-entries Inv-loop μ-loop Inv-loop2 μ-loop2
-mul-entries c = search needs
+mul-h-2 : tie.Need-mul-h-2 Inv-loop μ-loop
+mul-h-2 c = search needs
 
-array-set-from-entries : tie.Need-array-set-from-entries Inv-loop μ-loop Inv-loop2 μ-loop2
-array-set-from-entries c = search needs
+element-set-from-h : tie.Need-element-set-from-h Inv-loop μ-loop
+element-set-from-h c = search needs
 
-loop2-less : tie.Need-loop2-less Inv-loop μ-loop Inv-loop2 μ-loop2
-loop2-less c = search needs
+mul-m : tie.Need-mul-m Inv-loop μ-loop
+mul-m c = search needs
 
-loop2-again : tie.Need-loop2-again Inv-loop μ-loop Inv-loop2 μ-loop2
-loop2-again c = shift-down _ (c .before .before .loop2 .inv) (c .before .loop2-test .taken)
+element-copy-out-m : tie.Need-element-copy-out-m Inv-loop μ-loop
+element-copy-out-m c = search needs
 
-mul-entries-2 : tie.Need-mul-entries-2 Inv-loop μ-loop Inv-loop2 μ-loop2
-mul-entries-2 c = search needs
+mul-m-2 : tie.Need-mul-m-2 Inv-loop μ-loop
+mul-m-2 c = search needs
 
-array-set-from-entries-2 : tie.Need-array-set-from-entries-2 Inv-loop μ-loop Inv-loop2 μ-loop2
-array-set-from-entries-2 c = search needs
+element-set-from-m : tie.Need-element-set-from-m Inv-loop μ-loop
+element-set-from-m c = search needs
 
-add-count : tie.Need-add-count Inv-loop μ-loop Inv-loop2 μ-loop2
-add-count c = search needs
+loop-less : tie.Need-loop-less Inv-loop μ-loop
+loop-less c = search needs
 
-returns : tie.Need-returns Inv-loop μ-loop Inv-loop2 μ-loop2
-returns c = add-held liveGroups (found (c .before)) (c .if2 .taken)
+loop-again : tie.Need-loop-again Inv-loop μ-loop
+loop-again c = shift-both-down (c .before .before .before .loop .inv) (c .before .before .loop-test .taken)
 
-returns-2 : tie.Need-returns-2 Inv-loop μ-loop Inv-loop2 μ-loop2
-unfolding liveGroups
-returns-2 c =
-    let l = c .before .before .before .before in
-    let a = l .before .before .before .before .args in
-    add-done liveGroups (found l) (c .before .before .before .if2 .left) (c .before .before .if3 .taken)
-    (inserted idOf (a .t .count) (a .e) (found l) (c .before .loop2 .inv) (c .loop2-test .left))
+head-of-requires : tie.Need-head-of-requires Inv-loop μ-loop
+head-of-requires c κs = search needs
 
-returns-3 : tie.Need-returns-3 Inv-loop μ-loop Inv-loop2 μ-loop2
-returns-3 c = add-full liveGroups (found (c .before .before)) (c .before .if2 .left) (c .if3 .left)
+mul-t31 : tie.Need-mul-t31 Inv-loop μ-loop
+mul-t31 c = search needs
+
+element-set-from-heads : tie.Need-element-set-from-heads Inv-loop μ-loop
+element-set-from-heads c = search needs
+
+mul-lows : tie.Need-mul-lows Inv-loop μ-loop
+mul-lows c = search needs
+
+element-set-from-lows : tie.Need-element-set-from-lows Inv-loop μ-loop
+element-set-from-lows c = search needs
+
+add-t31 : tie.Need-add-t31 Inv-loop μ-loop
+add-t31 c = search needs
+
+returns-3 : tie.Need-returns-3 Inv-loop μ-loop
+unfolding groupsIn
+returns-3 c =
+    let l = c .before .before .before in
+    let f = l .before .before .before in
+    let a = f .before .before .before .args in
+    added groupsIn groupIn idOf 128 _ (a .count) _ refl _ (c .before .head-of .ensures) (found f)
+    (stored-group _ _ (l .loop .heads) (l .loop .members) _ _)
+    (l .before .before .if1 .left)
+    (omega arith)
+    (l .loop .inv .shifted)
+    (c .before .before .loop-test .left)
 
 pub group-add-spec : {M : Type 1} → statement M
 group-add-spec =
@@ -109,26 +114,25 @@ group-add-spec =
     (tie.spec
     Inv-loop
     μ-loop
-    Inv-loop2
-    μ-loop2
-    least-requires
-    loop-holds
-    mul-g
-    array-copy-out-g
-    add-at
-    loop-less
-    loop-again
-    loop2-holds
-    sub-j
-    mul-g-2
-    array-copy-out-g-2
-    mul-entries
-    array-set-from-entries
-    loop2-less
-    loop2-again
-    mul-entries-2
-    array-set-from-entries-2
-    add-count
+    group-find-requires
     returns
     returns-2
+    loop-holds
+    sub-j
+    mul-h
+    element-copy-out-h
+    mul-h-2
+    element-set-from-h
+    mul-m
+    element-copy-out-m
+    mul-m-2
+    element-set-from-m
+    loop-less
+    loop-again
+    head-of-requires
+    mul-t31
+    element-set-from-heads
+    mul-lows
+    element-set-from-lows
+    add-t31
     returns-3)

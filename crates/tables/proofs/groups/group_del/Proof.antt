@@ -1,99 +1,91 @@
--- `tables::groups::group_del` meets its contract. The search passes entries with lower keys; the shift moves the free entry slot
--- from the key's position up to the last live entry.
+-- `tables::groups::group_del` meets its contract.
 -- Assumes nothing.
+use borrow.Author.Needs.{needs}
 use Prim.Native.Nat.{_-_}
 use mathlib.Core.Path.{refl}
-use mathlib.Core.Logic.{⊎-elim}
+use lib.ListN.{take}
 use native.Mathlib.Omega.{arith}
-use borrow.Author.Needs.{needs}
-use Rattle.rules.specs.Tables.{liveGroups, idOf}
-use Rattle.rules.proofs.Arrays.{length-mapped}
-use Rattle.tables.proofs.Slots.{Shifted, unshifted, shift-up}
-use Rattle.tables.proofs.Search.{Searching, Sought, begin, pass, stop, end, held-lt, removed}
-use Rattle.tables.proofs.Commands.{not-held, held-done}
+use Rattle.rules.specs.Tables.{idOf}
+use Rattle.rules.specs.Rows.{groupIn, beside}
+use Rattle.rules.proofs.Mapped.{rowKey}
+use Rattle.tables.specs.Commands.{Sought}
+use Rattle.tables.specs.Groups.{groupsIn}
+use Rattle.tables.proofs.Search.{held-lt}
+use Rattle.tables.proofs.Beside.{Shifting, unshifted-both, shift-both-up, sought-beside}
+use Rattle.tables.proofs.InPlace.{deleted, absent}
 use Rattle.tables.proofs.groups.group_del.Statement.{statement}
 use Rattle.tables.proofs.groups.group_del.Tie as tie
 
 abbrev Inv-loop : tie.InvT-loop
-Inv-loop id entries count n at₀ held₀ at held = Searching idOf 128 id n count entries at held
+Inv-loop heads₀ members₀ count id n last i₀ heads members i = Shifting i₀ last i₀ i heads₀ members₀ heads members
 
 abbrev μ-loop : tie.MeasureT-loop
-μ-loop id entries count n at₀ held₀ at held = n - at
+μ-loop heads₀ members₀ count id n last i₀ heads members i = last - i
 
-abbrev Inv-loop2 : tie.InvT-loop2
-Inv-loop2 id entries₀ count n at held last i₀ entries i = Shifted 128 at last at i entries₀ entries
+group-find-requires : tie.Need-group-find-requires Inv-loop μ-loop
+group-find-requires c κs = search needs
 
-abbrev μ-loop2 : tie.MeasureT-loop2
-μ-loop2 id entries₀ count n at held last i₀ entries i = last - i
-
-least-requires : tie.Need-least-requires Inv-loop μ-loop Inv-loop2 μ-loop2
-least-requires c κs = search needs
-
-loop-holds : tie.Need-loop-holds Inv-loop μ-loop Inv-loop2 μ-loop2
-loop-holds c = begin idOf (search (needs, length-mapped)) (c .least .ensures)
-
-mul-g : tie.Need-mul-g Inv-loop μ-loop Inv-loop2 μ-loop2
-mul-g c = search needs
-
-array-copy-out-g : tie.Need-array-copy-out-g Inv-loop μ-loop Inv-loop2 μ-loop2
-array-copy-out-g c = search needs
-
-add-at : tie.Need-add-at Inv-loop μ-loop Inv-loop2 μ-loop2
-add-at c = search needs
-
-loop-less : tie.Need-loop-less Inv-loop μ-loop Inv-loop2 μ-loop2
-loop-less c = search needs
-
-loop-again : tie.Need-loop-again Inv-loop μ-loop Inv-loop2 μ-loop2
-loop-again c = pass idOf (c .before .before .before .before .loop .inv) _ (c .before .before .before .loop-test .taken) (c .if1 .left)
-
--- the key's position, and whether it stands there
-found : (c : tie.Left-loop Inv-loop μ-loop Inv-loop2 μ-loop2)
-    → Sought idOf 128 (c .before .before .before .before .args .id) (c .before .before .least .result) (liveGroups (c .before .before .before .before .args .t)) (c .before .loop .at) (c .loop-test .held)
-unfolding liveGroups
+-- the search, among the groups
+found : (c : tie.After-group-find Inv-loop μ-loop)
+    → Sought (rowKey groupIn idOf) 128 (c .before .before .before .args .id) (c .group-find .result .live) (take (c .before .before .before .args .count) (beside (c .before .before .before .args .heads .now) (c .before .before .before .args .members .now))) (c .group-find .result .at) (c .group-find .result .held)
 found c =
-    let s = c .before .loop .inv in
-    ⊎-elim (λ w. end idOf s (w .0 .left) (w .1)) (λ w. stop idOf s _ (w .0 .taken) (w .3 .taken) (w .5)) (c .loop-test .came)
+    let a = c .before .before .before .args in
+    let e = c .group-find .ensures in
+    sought-beside (a .count) (a .heads .now) (a .members .now) (e .0) (e .1) (e .2)
 
-sub-last : tie.Need-sub-last Inv-loop μ-loop Inv-loop2 μ-loop2
-sub-last c = omega (arith, held-lt (found (c .before)) (c .if2 .taken))
+sub-last : tie.Need-sub-last Inv-loop μ-loop
+sub-last c = omega (arith, held-lt (c .before .group-find .ensures .2) (c .if1 .taken))
 
-loop2-holds : tie.Need-loop2-holds Inv-loop μ-loop Inv-loop2 μ-loop2
-loop2-holds c =
-    let s = c .before .before .loop .inv in
-    let h = held-lt (found (c .before)) (c .if2 .taken) in
-    unshifted (s .size) (omega arith) (omega arith) (omega arith)
+loop-holds : tie.Need-loop-holds Inv-loop μ-loop
+loop-holds c =
+    let e = c .before .group-find .ensures in
+    let h = held-lt (e .2) (c .if1 .taken) in
+    unshifted-both (e .0) (e .1) (omega arith) (omega arith) (omega (arith, e .2 .inside))
 
-add-j : tie.Need-add-j Inv-loop μ-loop Inv-loop2 μ-loop2
+add-j : tie.Need-add-j Inv-loop μ-loop
 add-j c = search needs
 
-mul-g-2 : tie.Need-mul-g-2 Inv-loop μ-loop Inv-loop2 μ-loop2
-mul-g-2 c = search needs
+mul-h : tie.Need-mul-h Inv-loop μ-loop
+mul-h c = search needs
 
-array-copy-out-g-2 : tie.Need-array-copy-out-g-2 Inv-loop μ-loop Inv-loop2 μ-loop2
-array-copy-out-g-2 c = search needs
+element-copy-out-h : tie.Need-element-copy-out-h Inv-loop μ-loop
+element-copy-out-h c = search needs
 
-mul-entries : tie.Need-mul-entries Inv-loop μ-loop Inv-loop2 μ-loop2
-mul-entries c = search needs
+mul-h-2 : tie.Need-mul-h-2 Inv-loop μ-loop
+mul-h-2 c = search needs
 
-array-set-from-entries : tie.Need-array-set-from-entries Inv-loop μ-loop Inv-loop2 μ-loop2
-array-set-from-entries c = search needs
+element-set-from-h : tie.Need-element-set-from-h Inv-loop μ-loop
+element-set-from-h c = search needs
 
-loop2-less : tie.Need-loop2-less Inv-loop μ-loop Inv-loop2 μ-loop2
-loop2-less c = search needs
+mul-m : tie.Need-mul-m Inv-loop μ-loop
+mul-m c = search needs
 
-loop2-again : tie.Need-loop2-again Inv-loop μ-loop Inv-loop2 μ-loop2
-loop2-again c = shift-up _ (c .before .before .loop2 .inv) (c .before .loop2-test .taken)
+element-copy-out-m : tie.Need-element-copy-out-m Inv-loop μ-loop
+element-copy-out-m c = search needs
 
-returns : tie.Need-returns Inv-loop μ-loop Inv-loop2 μ-loop2
-unfolding liveGroups
+mul-m-2 : tie.Need-mul-m-2 Inv-loop μ-loop
+mul-m-2 c = search needs
+
+element-set-from-m : tie.Need-element-set-from-m Inv-loop μ-loop
+element-set-from-m c = search needs
+
+loop-less : tie.Need-loop-less Inv-loop μ-loop
+loop-less c = search needs
+
+loop-again : tie.Need-loop-again Inv-loop μ-loop
+loop-again c = shift-both-up (c .before .before .before .loop .inv) (c .before .before .loop-test .taken)
+
+returns : tie.Need-returns Inv-loop μ-loop
+unfolding groupsIn
 returns c =
-    let l = c .before .before .before in
-    let h = c .before .before .if2 .taken in
-    held-done liveGroups (found l) h (removed idOf (l .before .before .before .before .args .t .count) (found l) h refl (c .before .loop2 .inv) (c .loop2-test .left))
+    let l = c .before in
+    let f = l .before .before in
+    let a = f .before .before .before .args in
+    deleted groupsIn groupIn idOf 128 _ (a .count) _ refl (found f) refl (l .before .if1 .taken) refl (l .loop .inv .shifted) (c .loop-test .left)
 
-returns-2 : tie.Need-returns-2 Inv-loop μ-loop Inv-loop2 μ-loop2
-returns-2 c = not-held liveGroups (found (c .before)) (c .if2 .left)
+returns-2 : tie.Need-returns-2 Inv-loop μ-loop
+unfolding groupsIn
+returns-2 c = absent groupsIn groupIn idOf 128 _ _ _ refl (found (c .before)) (c .if1 .left)
 
 pub group-del-spec : {M : Type 1} → statement M
 group-del-spec =
@@ -101,23 +93,19 @@ group-del-spec =
     (tie.spec
     Inv-loop
     μ-loop
-    Inv-loop2
-    μ-loop2
-    least-requires
+    group-find-requires
+    sub-last
     loop-holds
-    mul-g
-    array-copy-out-g
-    add-at
+    add-j
+    mul-h
+    element-copy-out-h
+    mul-h-2
+    element-set-from-h
+    mul-m
+    element-copy-out-m
+    mul-m-2
+    element-set-from-m
     loop-less
     loop-again
-    sub-last
-    loop2-holds
-    add-j
-    mul-g-2
-    array-copy-out-g-2
-    mul-entries
-    array-set-from-entries
-    loop2-less
-    loop2-again
     returns
     returns-2)

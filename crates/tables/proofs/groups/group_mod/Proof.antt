@@ -1,80 +1,64 @@
--- `tables::groups::group_mod` meets its contract. The search passes entries with lower keys.
+-- `tables::groups::group_mod` meets its contract.
 -- Assumes nothing.
-use Prim.Native.Nat.{_-_}
-use mathlib.Core.Logic.{⊎-elim}
+use mathlib.Core.Path.{refl}
+use Rattle.rules.specs.Tables.{idOf}
+use Rattle.rules.specs.Rows.{groupIn}
+use Rattle.tables.specs.Groups.{groupsIn}
+use Rattle.tables.proofs.Search.{held-lt}
+use Rattle.tables.proofs.Beside.{sought-beside, stored-group}
+use Rattle.tables.proofs.InPlace.{modded, absent}
 use native.Mathlib.Omega.{arith}
 use borrow.Author.Needs.{needs}
-use Rattle.rules.specs.Tables.{liveGroups, idOf}
-use Rattle.rules.proofs.Arrays.{length-mapped}
-use Rattle.tables.proofs.Search.{Searching, Sought, begin, pass, stop, end, held-lt, replaced}
-use Rattle.tables.proofs.Commands.{not-held, held-done}
 use Rattle.tables.proofs.groups.group_mod.Statement.{statement}
 use Rattle.tables.proofs.groups.group_mod.Tie as tie
 
-abbrev Inv-loop : tie.InvT-loop
-Inv-loop t e entries n key at₀ held₀ at held = Searching idOf 128 key n (t .count) entries at held
+group-find-requires : tie.Need-group-find-requires
+group-find-requires c κs = search needs
 
-abbrev μ-loop : tie.MeasureT-loop
-μ-loop t e entries n key at₀ held₀ at held = n - at
+head-of-requires : tie.Need-head-of-requires
+head-of-requires c κs = search needs
 
-least-requires : tie.Need-least-requires Inv-loop μ-loop
-least-requires c κs = search needs
+mul-t12 : tie.Need-mul-t12
+mul-t12 c = search needs
 
-loop-holds : tie.Need-loop-holds Inv-loop μ-loop
-loop-holds c = begin idOf (search (needs, length-mapped)) (c .least .ensures)
+element-set-from-heads : tie.Need-element-set-from-heads
+element-set-from-heads c = omega (arith, held-lt (c .before .before .group-find .ensures .2) (c .before .if1 .taken))
 
-mul-g : tie.Need-mul-g Inv-loop μ-loop
-mul-g c = search needs
+mul-lows : tie.Need-mul-lows
+mul-lows c = search needs
 
-array-copy-out-g : tie.Need-array-copy-out-g Inv-loop μ-loop
-array-copy-out-g c = search needs
+element-set-from-lows : tie.Need-element-set-from-lows
+element-set-from-lows c = omega (arith, held-lt (c .before .before .before .group-find .ensures .2) (c .before .before .if1 .taken))
 
-add-at : tie.Need-add-at Inv-loop μ-loop
-add-at c = search needs
-
-loop-less : tie.Need-loop-less Inv-loop μ-loop
-loop-less c = search needs
-
-loop-again : tie.Need-loop-again Inv-loop μ-loop
-loop-again c = pass idOf (c .before .before .before .before .loop .inv) _ (c .before .before .before .loop-test .taken) (c .if1 .left)
-
--- the key's position, and whether it stands there
-found : (c : tie.Left-loop Inv-loop μ-loop)
-    → Sought idOf 128 (c .before .before .before .before .args .e .id) (c .before .before .least .result) (liveGroups (c .before .before .before .before .args .t)) (c .before .loop .at) (c .loop-test .held)
-unfolding liveGroups
-found c =
-    let s = c .before .loop .inv in
-    ⊎-elim (λ w. end idOf s (w .0 .left) (w .1)) (λ w. stop idOf s _ (w .0 .taken) (w .3 .taken) (w .5)) (c .loop-test .came)
-
-mul-entries : tie.Need-mul-entries Inv-loop μ-loop
-mul-entries c = omega (arith, held-lt (found (c .before)) (c .if2 .taken))
-
-array-set-from-entries : tie.Need-array-set-from-entries Inv-loop μ-loop
-array-set-from-entries c = omega (arith, held-lt (found (c .before)) (c .if2 .taken))
-
-returns : tie.Need-returns Inv-loop μ-loop
-unfolding liveGroups
+returns : tie.Need-returns
+unfolding groupsIn
 returns c =
-    let a = c .before .before .before .before .before .args in
-    held-done liveGroups (found (c .before)) (c .if2 .taken) (replaced idOf (a .t .count) (a .t .entries) (a .e) (found (c .before)) (c .if2 .taken))
+    let t = c .before .before in
+    let f = t .before in
+    let a = f .before .before .before .args in
+    let e = f .group-find .ensures in
+    modded groupsIn groupIn idOf 128 _ (a .count) _ refl _ (c .before .head-of .ensures)
+    (sought-beside (a .count) (a .heads .now) (a .members .now) (e .0) (e .1) (e .2))
+    (stored-group (a .count) _ (a .heads .now) (a .members .now) _ _)
+    (t .if1 .taken)
 
-returns-2 : tie.Need-returns-2 Inv-loop μ-loop
-returns-2 c = not-held liveGroups (found (c .before)) (c .if2 .left)
+returns-2 : tie.Need-returns-2
+unfolding groupsIn
+returns-2 c =
+    let f = c .before in
+    let a = f .before .before .before .args in
+    let e = f .group-find .ensures in
+    absent groupsIn groupIn idOf 128 _ _ _ refl (sought-beside (a .count) (a .heads .now) (a .members .now) (e .0) (e .1) (e .2)) (c .if1 .left)
 
 pub group-mod-spec : {M : Type 1} → statement M
 group-mod-spec =
     tie.close
     (tie.spec
-    Inv-loop
-    μ-loop
-    least-requires
-    loop-holds
-    mul-g
-    array-copy-out-g
-    add-at
-    loop-less
-    loop-again
-    mul-entries
-    array-set-from-entries
+    group-find-requires
+    head-of-requires
+    mul-t12
+    element-set-from-heads
+    mul-lows
+    element-set-from-lows
     returns
     returns-2)

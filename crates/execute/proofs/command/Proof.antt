@@ -1,0 +1,147 @@
+-- `execute::command` meets its contract: each arm is one law of Carried.
+-- Assumes nothing.
+use Rattle.execute.proofs.Carried.{flow-added, flow-replaced, flow-removed, group-added, group-replaced, group-removed}
+use borrow.Author.Needs.{needs}
+use Rattle.execute.proofs.command.Statement.{statement}
+use Rattle.execute.proofs.command.Tie as tie
+use Rattle.execute.proofs.command.Reads as reads
+use Rattle.execute.proofs.command.Lts as lts
+use Rattle.execute.proofs.flow_entry.Reads as flow-entry-reads
+use Rattle.execute.proofs.group_entry.Reads as group-entry-reads
+use Rattle.execute.proofs.of_flows.Reads as of-flows-reads
+use Rattle.execute.proofs.of_groups.Reads as of-groups-reads
+use Rattle.tables.proofs.flow_add.Reads as flow-add-reads
+use Rattle.tables.proofs.flow_del.Reads as flow-del-reads
+use Rattle.tables.proofs.flow_mod.Reads as flow-mod-reads
+use Rattle.tables.proofs.group_add.Reads as group-add-reads
+use Rattle.tables.proofs.group_del.Reads as group-del-reads
+use Rattle.tables.proofs.group_mod.Reads as group-mod-reads
+
+enum-known-c : tie.Need-enum-known-c
+enum-known-c c = search needs
+
+flow-entry-requires : tie.Need-flow-entry-requires
+flow-entry-requires c κs = search needs
+
+flow-add-requires : tie.Need-flow-add-requires
+flow-add-requires c κs = search needs
+
+of-flows-requires : tie.Need-of-flows-requires
+of-flows-requires c κs = search needs
+
+enum-known-c-2 : tie.Need-enum-known-c-2
+enum-known-c-2 c = search needs
+
+flow-entry-requires-2 : tie.Need-flow-entry-requires-2
+flow-entry-requires-2 c κs = search needs
+
+flow-mod-requires : tie.Need-flow-mod-requires
+flow-mod-requires c κs = search needs
+
+of-flows-requires-2 : tie.Need-of-flows-requires-2
+of-flows-requires-2 c κs = search needs
+
+enum-known-c-3 : tie.Need-enum-known-c-3
+enum-known-c-3 c = search needs
+
+flow-del-requires : tie.Need-flow-del-requires
+flow-del-requires c κs = search needs
+
+of-flows-requires-3 : tie.Need-of-flows-requires-3
+of-flows-requires-3 c κs = search needs
+
+enum-known-c-4 : tie.Need-enum-known-c-4
+enum-known-c-4 c = search needs
+
+group-entry-requires : tie.Need-group-entry-requires
+group-entry-requires c κs = search needs
+
+group-add-requires : tie.Need-group-add-requires
+group-add-requires c κs = search needs
+
+of-groups-requires : tie.Need-of-groups-requires
+of-groups-requires c κs = search needs
+
+enum-known-c-5 : tie.Need-enum-known-c-5
+enum-known-c-5 c = search needs
+
+group-entry-requires-2 : tie.Need-group-entry-requires-2
+group-entry-requires-2 c κs = search needs
+
+group-mod-requires : tie.Need-group-mod-requires
+group-mod-requires c κs = search needs
+
+of-groups-requires-2 : tie.Need-of-groups-requires-2
+of-groups-requires-2 c κs = search needs
+
+enum-known-c-6 : tie.Need-enum-known-c-6
+enum-known-c-6 c = search needs
+
+group-del-requires : tie.Need-group-del-requires
+group-del-requires c κs = search needs
+
+of-groups-requires-3 : tie.Need-of-groups-requires-3
+of-groups-requires-3 c κs = search needs
+
+returns : tie.Need-returns
+returns c =
+    rw (c .before .before .before .before .before .c .given .1, c .of-flows .ensures)
+    (flow-added _ _ _ _ _ _ _ _ (c .before .before .flow-entry .ensures) (c .before .flow-add .ensures))
+
+returns-2 : tie.Need-returns-2
+returns-2 c =
+    rw (c .before .before .before .before .before .c2 .given .1, c .of-flows2 .ensures)
+    (flow-replaced _ _ _ _ _ _ _ _ (c .before .before .flow-entry2 .ensures) (c .before .flow-mod .ensures))
+
+returns-3 : tie.Need-returns-3
+returns-3 c =
+    rw (c .before .before .before .before .c3 .given .1, c .of-flows3 .ensures)
+    (flow-removed _ _ _ _ _ _ _ (c .before .flow-del .ensures))
+
+returns-4 : tie.Need-returns-4
+returns-4 c =
+    rw (c .before .before .before .before .before .before .c4 .given .1, c .of-groups .ensures)
+    (group-added _ _ _ _ _ _ _ _ _ (c .before .before .group-entry .ensures) (c .before .group-add .ensures))
+
+returns-5 : tie.Need-returns-5
+returns-5 c =
+    rw (c .before .before .before .before .before .before .c5 .given .1, c .of-groups2 .ensures)
+    (group-replaced _ _ _ _ _ _ _ _ _ (c .before .before .group-entry2 .ensures) (c .before .group-mod .ensures))
+
+returns-6 : tie.Need-returns-6
+returns-6 c =
+    rw (c .before .before .before .before .before .c6 .given .1, c .of-groups3 .ensures)
+    (group-removed _ _ _ _ _ _ _ _ (c .before .group-del .ensures))
+
+pub command-spec : {M : Type 1} → statement M
+command-spec =
+    tie.close
+    (tie.spec
+    enum-known-c
+    flow-entry-requires
+    flow-add-requires
+    of-flows-requires
+    enum-known-c-2
+    flow-entry-requires-2
+    flow-mod-requires
+    of-flows-requires-2
+    enum-known-c-3
+    flow-del-requires
+    of-flows-requires-3
+    enum-known-c-4
+    group-entry-requires
+    group-add-requires
+    of-groups-requires
+    enum-known-c-5
+    group-entry-requires-2
+    group-mod-requires
+    of-groups-requires-2
+    enum-known-c-6
+    group-del-requires
+    of-groups-requires-3
+    returns
+    returns-2
+    returns-3
+    returns-4
+    returns-5
+    returns-6)

@@ -1,0 +1,2 @@
+-- Laws of words.
+mod Halves

@@ -1,0 +1,86 @@
+-- `tables::flows::flow_find` meets its contract.
+-- Assumes nothing.
+use borrow.Author.Needs.{needs}
+use Prim.Native.Nat.{_-_}
+use mathlib.Core.Path.{refl}
+use mathlib.Core.List.{[]}
+use Rattle.rules.specs.Rows.{cookieIn}
+use Rattle.tables.proofs.Search.{Searching, begin, pass, stop, end}
+use native.Mathlib.Omega.{arith}
+use Rattle.tables.proofs.flows.flow_find.Statement.{statement}
+use Rattle.tables.proofs.flows.flow_find.Tie as tie
+
+abbrev Inv-loop : tie.InvT-loop
+Inv-loop rows count key n at₀ held₀ at held = Searching cookieIn 256 key n count rows at held
+
+abbrev μ-loop : tie.MeasureT-loop
+μ-loop rows count key n at₀ held₀ at held = n - at
+
+least-requires : tie.Need-least-requires Inv-loop μ-loop
+least-requires c κs = search needs
+
+loop-holds : tie.Need-loop-holds Inv-loop μ-loop
+loop-holds c = begin cookieIn (omega (arith, c .before .all .given)) (omega (arith, c .least .ensures, c .before .all .given))
+
+mul-join : tie.Need-mul-join Inv-loop μ-loop
+mul-join c = search needs
+
+index-1-join : tie.Need-index-1-join Inv-loop μ-loop
+index-1-join c = search needs
+
+index-2-join : tie.Need-index-2-join Inv-loop μ-loop
+index-2-join c = search needs
+
+mul-join-2 : tie.Need-mul-join-2 Inv-loop μ-loop
+mul-join-2 c = search needs
+
+index-1-join-2 : tie.Need-index-1-join-2 Inv-loop μ-loop
+index-1-join-2 c = search needs
+
+index-2-join-2 : tie.Need-index-2-join-2 Inv-loop μ-loop
+index-2-join-2 c = search needs
+
+join-requires : tie.Need-join-requires Inv-loop μ-loop
+join-requires c κs = search needs
+
+add-at : tie.Need-add-at Inv-loop μ-loop
+add-at c = search needs
+
+loop-less : tie.Need-loop-less Inv-loop μ-loop
+loop-less c = search needs
+
+loop-again : tie.Need-loop-again Inv-loop μ-loop
+loop-again c =
+    let l = c .before .before .before .before in
+    pass cookieIn (l .before .loop .inv) [] (l .loop-test .taken) (omega (arith, c .before .join .ensures, c .if1 .left))
+
+returns : tie.Need-returns Inv-loop μ-loop
+returns c = (c .before .loop .inv .size, end cookieIn (c .before .loop .inv) (c .loop-test .left) refl)
+
+returns-2 : tie.Need-returns-2 Inv-loop μ-loop
+returns-2 c =
+    let l = c .before .before .before .before in (
+      l .before .loop .inv .size,
+      stop cookieIn (l .before .loop .inv) [] (l .loop-test .taken) (omega (arith, c .before .join .ensures, c .if1 .taken)) (rw (c .before .join .ensures)),
+    )
+
+pub flow-find-spec : {M : Type 1} → statement M
+flow-find-spec =
+    tie.close
+    (tie.spec
+    Inv-loop
+    μ-loop
+    least-requires
+    loop-holds
+    mul-join
+    index-1-join
+    index-2-join
+    mul-join-2
+    index-1-join-2
+    index-2-join-2
+    join-requires
+    add-at
+    loop-less
+    loop-again
+    returns
+    returns-2)
