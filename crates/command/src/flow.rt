@@ -1,60 +1,64 @@
 // Flow commands in a CMD_INFO.
 ghost use mathlib.Core.Path.{_≡_};
+ghost use Prim.Native.Nat.{_<_};
 ghost use Rattle.rules.specs.Choose.{choose};
 ghost use Rattle.rules.specs.Bytes.{swap16};
 ghost use Rattle.rules.specs.Fields.{value};
 ghost use Rattle.rules.specs.Decode.{matchOf, flowOf, groupFits, newVlanFits, matchAllowed, flowUser, isTable, flowIn, flowKeyIn};
 ghost use Rattle.rules.specs.declared.Command.the-variants.{FlowAdd, FlowMod};
+ghost use Rattle.tlv.specs.Index.{Indexed};
 use rules::Command;
 use rules::Decoding;
 use rules::Flow;
 use rules::Match;
 use rules::Status;
-use tlv::fields;
 
 // A VLAN, which is big-endian.
-fn vlan(s: &[u8], t: u32) -> u16
+fn vlan(s: &[u8], places: &[usize; 44], t: u32) -> u16
+    requires { ⌜ (Indexed (now s) (now places)) × (t < 44) ⌝ }
     ensures { λ r. ⌜ r ≡ swap16 (value (now (s .entry)) t) ⌝ }
 {
-    let v = fields::value(s, t);
+    let v = fields::value(s, places, t);
     (v % 256 * 256 + v / 256 % 256) as u16
 }
 
-fn match_of(s: &[u8], t: u64) -> Match
+fn match_of(s: &[u8], places: &[usize; 44], t: u64) -> Match
+    requires { ⌜ Indexed (now s) (now places) ⌝ }
     ensures { λ r. ⌜ r ≡ matchOf (now (s .entry)) t ⌝ }
 {
     if t == 0 {
         Match::IngressPort {
-            in_pport: super::word(s, fields::IN_PPORT),
-            in_pport_mask: super::word(s, fields::IN_PPORT_MASK),
+            in_pport: super::word(s, places, fields::IN_PPORT),
+            in_pport_mask: super::word(s, places, fields::IN_PPORT_MASK),
         }
     } else if t == 10 {
         Match::Vlan {
-            in_pport: super::word(s, fields::IN_PPORT),
-            vlan_id: vlan(s, fields::VLAN_ID),
-            new_vlan_id: vlan(s, fields::NEW_VLAN_ID),
+            in_pport: super::word(s, places, fields::IN_PPORT),
+            vlan_id: vlan(s, places, fields::VLAN_ID),
+            new_vlan_id: vlan(s, places, fields::NEW_VLAN_ID),
         }
     } else {
         Match::Bridging {
-            vlan_id: vlan(s, fields::VLAN_ID),
-            has_mac: fields::given(s, fields::DST_MAC),
-            dst_mac: fields::value(s, fields::DST_MAC),
-            has_group: fields::given(s, fields::GROUP_ID),
-            group_id: super::word(s, fields::GROUP_ID),
+            vlan_id: vlan(s, places, fields::VLAN_ID),
+            has_mac: fields::given(s, places, fields::DST_MAC),
+            dst_mac: fields::value(s, places, fields::DST_MAC),
+            has_group: fields::given(s, places, fields::GROUP_ID),
+            group_id: super::word(s, places, fields::GROUP_ID),
         }
     }
 }
 
-fn flow_of(s: &[u8], t: u64) -> Flow
+fn flow_of(s: &[u8], places: &[usize; 44], t: u64) -> Flow
+    requires { ⌜ Indexed (now s) (now places) ⌝ }
     ensures { λ r. ⌜ r ≡ flowOf (now (s .entry)) t ⌝ }
 {
-    let matching = match_of(s, t);
+    let matching = match_of(s, places, t);
     Flow {
-        cookie: fields::value(s, fields::COOKIE),
-        priority: super::word(s, fields::PRIORITY),
-        hardtime: super::word(s, fields::HARDTIME),
-        idletime: super::word(s, fields::IDLETIME),
-        goto_tbl: fields::value(s, fields::GOTO_TBL) as u16,
+        cookie: fields::value(s, places, fields::COOKIE),
+        priority: super::word(s, places, fields::PRIORITY),
+        hardtime: super::word(s, places, fields::HARDTIME),
+        idletime: super::word(s, places, fields::IDLETIME),
+        goto_tbl: fields::value(s, places, fields::GOTO_TBL) as u16,
         matching: matching,
     }
 }
@@ -146,20 +150,21 @@ fn flow_command(add: bool, f: Flow) -> Command
 }
 
 // Flow add and mod.
-pub fn flow_in(ports: u32, s: &[u8], add: bool) -> Decoding
+pub fn flow_in(ports: u32, s: &[u8], places: &[usize; 44], add: bool) -> Decoding
+    requires { ⌜ Indexed (now s) (now places) ⌝ }
     ensures { λ r. ⌜ r ≡ flowIn ports (now (s .entry)) (choose add FlowAdd FlowMod) ⌝ }
 {
-    if !fields::given(s, fields::TBL) {
+    if !fields::given(s, places, fields::TBL) {
         return super::refused(Status::Einval);
     }
-    let t = fields::value(s, fields::TBL);
+    let t = fields::value(s, places, fields::TBL);
     if !is_table(t) {
         return super::refused(Status::Enotsup);
     }
-    let flow = flow_of(s, t);
+    let flow = flow_of(s, places, t);
     let matching = flow.matching;
-    let has_new = fields::given(s, fields::NEW_VLAN_ID);
-    if !(fields::fields_right(s, flow_user(t))
+    let has_new = fields::given(s, places, fields::NEW_VLAN_ID);
+    if !(fields::fields_right(s, places, flow_user(t))
         & match_allowed(ports, flow.goto_tbl, has_new, matching)) {
         return super::refused(Status::Einval);
     }
@@ -167,11 +172,15 @@ pub fn flow_in(ports: u32, s: &[u8], add: bool) -> Decoding
 }
 
 // Flow del.
-pub fn flow_key_in(s: &[u8]) -> Decoding
+pub fn flow_key_in(s: &[u8], places: &[usize; 44]) -> Decoding
+    requires { ⌜ Indexed (now s) (now places) ⌝ }
     ensures { λ r. ⌜ r ≡ flowKeyIn (now (s .entry)) ⌝ }
 {
-    if !fields::fields_right(s, fields::FLOW_DEL) {
+    if !fields::fields_right(s, places, fields::FLOW_DEL) {
         return super::refused(Status::Einval);
     }
-    super::carried(Command::FlowDel(fields::value(s, fields::COOKIE)), [0; 62])
+    super::carried(
+        Command::FlowDel(fields::value(s, places, fields::COOKIE)),
+        [0; 62],
+    )
 }

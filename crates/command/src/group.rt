@@ -10,59 +10,62 @@ ghost use Rattle.rules.specs.Members.{Collected, membersRight};
 ghost use Rattle.rules.specs.Decode.{groupOf, membersOf, groupAllowed, groupUser, groupIn, groupKeyIn};
 ghost use Rattle.rules.specs.declared.Command.the-variants.{GroupAdd, GroupMod};
 ghost use Rattle.members.specs.Listed.{listed};
+ghost use Rattle.tlv.specs.Index.{Indexed};
+use fields::found;
 use members::Members;
 use rules::Command;
 use rules::Decoding;
 use rules::Group;
 use rules::Status;
-use tlv::fields;
 
 // The group itself. Its count was compared with its members, so it fits 8 bits.
-fn group_of(s: &[u8], id: u32) -> Group
-    requires { ⌜ (eqb (groupType id) 0 ≡ false → value (now s) 12 < 256) ⌝ }
+fn group_of(s: &[u8], places: &[usize; 44], id: u32) -> Group
+    requires { ⌜ (Indexed (now s) (now places)) × (eqb (groupType id) 0 ≡ false → value (now s) 12 < 256) ⌝ }
     ensures { λ r. ⌜ r ≡ groupOf (now (s .entry)) id ⌝ }
 {
     if group_id::type_of(id) == 0 {
         Group {
             id: id,
-            pop_vlan: fields::value(s, fields::POP_VLAN) == 1,
+            pop_vlan: fields::value(s, places, fields::POP_VLAN) == 1,
             member_count: 0,
         }
     } else {
         Group {
             id: id,
             pop_vlan: false,
-            member_count: fields::value(s, fields::GROUP_COUNT) as u8,
+            member_count: fields::value(s, places, fields::GROUP_COUNT) as u8,
         }
     }
 }
 
-fn members_of(s: &[u8], id: u32) -> Members
+fn members_of(s: &[u8], places: &[usize; 44], id: u32) -> Members
+    requires { ⌜ Indexed (now s) (now places) ⌝ }
     ensures { λ r. ⌜ r ≡ listed (value (now (s .entry)) 12) (membersOf (now (s .entry)) id) ⌝ }
 {
     if group_id::type_of(id) == 0 {
         return members::none();
     }
-    let nest = tlv::nest_in(s, fields::field(s, fields::GROUP_IDS));
+    let nest = found::nest_in(s, fields::field(s, places, fields::GROUP_IDS));
     members::read(
         nest,
         group_id::vlan_of(id),
-        fields::value(s, fields::GROUP_COUNT),
+        fields::value(s, places, fields::GROUP_COUNT),
     )
 }
 
 // The ranges of a group's fields; `right`: its member list is right for its count.
-fn group_allowed(ports: u32, s: &[u8], id: u32, right: bool) -> bool
+fn group_allowed(ports: u32, s: &[u8], places: &[usize; 44], id: u32, right: bool) -> bool
+    requires { ⌜ Indexed (now s) (now places) ⌝ }
     ensures { λ r. ⌜ ((c : Collected) → right ≡ membersRight (value (now (s .entry)) 12) c → r ≡ groupAllowed ports (now (s .entry)) id c) ⌝ }
 {
     if group_id::type_of(id) != 0 {
         return group_id::allowed(id) & right;
     }
-    let port = fields::value(s, fields::OUT_PPORT);
+    let port = fields::value(s, places, fields::OUT_PPORT);
     group_id::allowed(id)
         & ((port == group_id::low_of(id) as u64)
             & (port <= ports as u64)
-            & (fields::value(s, fields::POP_VLAN) <= 1))
+            & (fields::value(s, places, fields::POP_VLAN) <= 1))
 }
 
 fn group_user(id: u32) -> u8
@@ -86,24 +89,27 @@ fn group_command(add: bool, g: Group) -> Command
 }
 
 // Group add and mod.
-pub fn group_in(ports: u32, s: &[u8], add: bool) -> Decoding
+pub fn group_in(ports: u32, s: &[u8], places: &[usize; 44], add: bool) -> Decoding
+    requires { ⌜ Indexed (now s) (now places) ⌝ }
     ensures { λ r. ⌜ r ≡ groupIn ports (now (s .entry)) (choose add GroupAdd GroupMod) ⌝ }
 {
-    let id = super::word(s, fields::GROUP_ID);
-    let m = members_of(s, id);
-    if !(fields::fields_right(s, group_user(id)) & group_allowed(ports, s, id, m.right)) {
+    let id = super::word(s, places, fields::GROUP_ID);
+    let m = members_of(s, places, id);
+    if !(fields::fields_right(s, places, group_user(id))
+        & group_allowed(ports, s, places, id, m.right)) {
         return super::refused(Status::Einval);
     }
     let lows = m.lows;
-    super::carried(group_command(add, group_of(s, id)), lows)
+    super::carried(group_command(add, group_of(s, places, id)), lows)
 }
 
 // Group del.
-pub fn group_key_in(s: &[u8]) -> Decoding
+pub fn group_key_in(s: &[u8], places: &[usize; 44]) -> Decoding
+    requires { ⌜ Indexed (now s) (now places) ⌝ }
     ensures { λ r. ⌜ r ≡ groupKeyIn (now (s .entry)) ⌝ }
 {
-    let id = super::word(s, fields::GROUP_ID);
-    if !(fields::fields_right(s, fields::GROUP_DEL) & group_id::allowed(id)) {
+    let id = super::word(s, places, fields::GROUP_ID);
+    if !(fields::fields_right(s, places, fields::GROUP_DEL) & group_id::allowed(id)) {
         return super::refused(Status::Einval);
     }
     super::carried(Command::GroupDel(id), [0; 62])

@@ -1,15 +1,16 @@
 // A payload decoded: what it asks for, or the status of its first fault. Every function is equal to a rule of `rules`.
 ghost use mathlib.Core.Path.{_≡_};
 ghost use mathlib.Core.List.{List};
-ghost use Prim.Native.Nat.{ℕ, _≤_};
+ghost use Prim.Native.Nat.{ℕ, _≤_, _<_};
 ghost use Rattle.rules.specs.Fields.{ruleOf, value};
 ghost use Rattle.rules.specs.Members.{pad};
 ghost use Rattle.rules.specs.Decode.{refused as Decode·refused, carried as Decode·carried, isCommand, commandIn, decode as Decode·decode};
+ghost use Rattle.tlv.specs.Index.{Indexed};
+use fields::found;
 use rules::Command;
 use rules::Decoded;
 use rules::Decoding;
 use rules::Status;
-use tlv::fields;
 
 mod flow;
 mod group;
@@ -52,11 +53,11 @@ fn carried(command: Command, lows: [u16; 62]) -> Decoding
 }
 
 // The number of a field that has four bytes at most.
-fn word(s: &[u8], t: u32) -> u32
-    requires { ⌜ ruleOf t .width ≤ 4 ⌝ }
+fn word(s: &[u8], places: &[usize; 44], t: u32) -> u32
+    requires { ⌜ (Indexed (now s) (now places)) × (t < 44) × (ruleOf t .width ≤ 4) ⌝ }
     ensures { λ r. ⌜ r ≡ value (now (s .entry)) t ⌝ }
 {
-    fields::value(s, t) as u32
+    fields::value(s, places, t) as u32
 }
 
 fn is_command(c: u64) -> bool
@@ -71,21 +72,22 @@ fn is_command(c: u64) -> bool
 }
 
 // A command in CMD_INFO, by its CMD_TYPE.
-fn command_in(ports: u32, c: u64, s: &[u8]) -> Decoding
+fn command_in(ports: u32, c: u64, s: &[u8], places: &[usize; 44]) -> Decoding
+    requires { ⌜ Indexed (now s) (now places) ⌝ }
     ensures { λ r. ⌜ r ≡ commandIn ports c (now (s .entry)) ⌝ }
 {
     if c == FLOW_ADD {
-        flow::flow_in(ports, s, true)
+        flow::flow_in(ports, s, places, true)
     } else if c == FLOW_MOD {
-        flow::flow_in(ports, s, false)
+        flow::flow_in(ports, s, places, false)
     } else if c == FLOW_DEL {
-        flow::flow_key_in(s)
+        flow::flow_key_in(s, places)
     } else if c == GROUP_ADD {
-        group::group_in(ports, s, true)
+        group::group_in(ports, s, places, true)
     } else if c == GROUP_MOD {
-        group::group_in(ports, s, false)
+        group::group_in(ports, s, places, false)
     } else {
-        group::group_key_in(s)
+        group::group_key_in(s, places)
     }
 }
 
@@ -93,18 +95,20 @@ fn command_in(ports: u32, c: u64, s: &[u8]) -> Decoding
 pub fn decode(payload: &[u8], ports: u32) -> Decoding
     ensures { λ r. ⌜ r ≡ Decode·decode ports (now (payload .entry)) ⌝ }
 {
-    let kind = tlv::find(payload, CMD_TYPE, 2);
-    let info = tlv::find(payload, CMD_INFO, 0);
-    if !(tlv::well_formed(payload) & tlv::is_at(kind) & tlv::is_at(info)) {
+    let top = tlv::index_of(payload);
+    let kind = found::found(payload, &top.places, CMD_TYPE, 2);
+    let info = found::found(payload, &top.places, CMD_INFO, 0);
+    if !(top.whole & found::is_at(kind) & found::is_at(info)) {
         return refused(Status::Einval);
     }
-    let c = tlv::number_in(payload, 2, kind);
+    let c = found::number_in(payload, 2, kind);
     if !is_command(c) {
         return refused(Status::Enotsup);
     }
-    let nest = tlv::nest_in(payload, info);
-    if !tlv::well_formed(nest) {
+    let nest = found::nest_in(payload, info);
+    let index = tlv::index_of(nest);
+    if !index.whole {
         return refused(Status::Einval);
     }
-    command_in(ports, c, nest)
+    command_in(ports, c, nest, &index.places)
 }

@@ -1,15 +1,15 @@
 -- Members collected, a TLV at a time, into the front of 62 numbers.
 -- Assumes nothing.
 use Prim.Native.Nat.{ℕ, suc, _+_, _-_, _≤_, _<_}
-use mathlib.Core.Path.{_≡_, refl, ap, sym, _∙_}
-use mathlib.Core.Bool.{Bool, true, false, not, _&&_}
+use mathlib.Core.Path.{_≡_, refl, ap, sym, subst, _∙_}
+use mathlib.Core.Bool.{Bool, true, false, not, _&&_, _||_}
 use mathlib.Core.List.{List, [], _∷_, _++_, append-assoc}
 use native.Mathlib.Omega.{arith}
 use native.Mathlib.Numerals.{add-one}
 use lib.ListN.{length, length-append, length-set, getD, take, drop, set, replicate, drop-of-length-le}
 use lib.Seq.{drop-cons, set-at, take-suc-set, length-take-le}
-use lib.Dec.{eqb, leb}
-use borrow.Author.Tests.{eq-eqb, ne-eqb, ltb-true}
+use lib.Dec.{T as Holds, eqb, leb, ltb}
+use borrow.Author.Tests.{ne-eqb, ltb-true, ltb-false, lt-leb, le-leb, lt-ltb, le-ltb}
 use Rattle.rules.specs.Choose.{choose}
 use Rattle.rules.specs.Bytes.{leAt}
 use Rattle.rules.specs.Region.{tlvEnd, stepAt, after, tlvs, wellFormed}
@@ -17,31 +17,27 @@ use Rattle.rules.specs.Fields.{ruleOf}
 use Rattle.rules.specs.GroupId.{groupType, groupVlan, groupLow}
 use Rattle.rules.specs.Members.{Collected, elem, memberRight, membersRight, collect, membersIn, pad}
 use Rattle.rules.specs.declared.Tlv.{Tlv}
+use Rattle.rules.specs.declared.Step.{Step}
 use Rattle.rules.specs.declared.Step.the-variants.{Next, End, Fault}
-use Rattle.rules.proofs.Region.{Reached, reached-next, reached-end, reached-fault, tlvs-next, tlvs-end, step-inside, after-next}
-use Rattle.rules.proofs.Cases.{by-test, by-le, and-left}
+use Rattle.rules.proofs.Region.{Reached, reached-next, reached-end, reached-fault, tlvs-next, tlvs-end, step-inside, after-next, after-less}
+use Rattle.rules.proofs.Cases.{by-test, by-le, by-lt, and-left, true-or-false}
+use Rattle.tlv.specs.Index.{stops, isEnd}
+use Rattle.tlv.proofs.Indexing.{goes-on}
 use Rattle.members.specs.Listed.{listed}
+use Rattle.members.specs.Taking.{lowAt, rightAfter, counted, stored, endedAt}
 
 -- a number looked for from a position on
 module _ (x : ℕ) (s : List ℕ) (i : ℕ) where
-  pub elem-here : i < length s → getD s i 0 ≡ x → true ≡ elem x (drop i s)
+  -- found before it or from it on, is found before the next one or from that on
+  pub found-next : (there : Bool) → i < length s → (there || elem x (drop i s)) ≡ ((there || eqb (getD s i 0) x) || elem x (drop (i + 1) s))
   unfolding elem
-  elem-here h e = rw (drop-cons s i 0 h, eq-eqb (getD s i 0) x e)
+  found-next true h = refl
+  found-next false h = rw (drop-cons s i 0 h, add-one)
 
-  pub elem-next : i < length s → (getD s i 0 ≡ x → ⊥) → elem x (drop i s) ≡ elem x (drop (i + 1) s)
+  pub found-end : (there : Bool) → length s ≤ i → there ≡ (there || elem x (drop i s))
   unfolding elem
-  elem-next h e = rw (drop-cons s i 0 h, ne-eqb (getD s i 0) x e, add-one)
-
-  pub elem-end : length s ≤ i → false ≡ elem x (drop i s)
-  unfolding elem
-  elem-end h = rw (drop-of-length-le s h)
-
--- the low bits that a TLV adds to n members before it, and whether it is right after them
-abbrev pub lowAt : List ℕ → Tlv → ℕ
-lowAt s x = groupLow (leAt 4 s (x .start))
-
-abbrev pub rightAfter : List ℕ → ℕ → List ℕ → ℕ → Tlv → Bool
-rightAfter s vlan before n x = memberRight vlan n x (leAt 4 s (x .start)) (elem (lowAt s x) before)
+  found-end true h = refl
+  found-end false h = rw (drop-of-length-le s h)
 
 -- no members, where one is not right or the region is not well formed
 abbrev nobody : Collected
@@ -54,7 +50,7 @@ unfolding collect
 collect-cons s vlan before x xs b e = ap (λ (t : Bool). choose t (collect s vlan (before ++ (lowAt s x ∷ [])) xs) nobody) e
 
 -- a member is one of 62 at most
-pub member-room : (vlan n : ℕ) (x : Tlv) (id : ℕ) (there : Bool) → memberRight vlan n x id there ≡ true → n < 62
+member-room : (vlan n : ℕ) (x : Tlv) (id : ℕ) (there : Bool) → memberRight vlan n x id there ≡ true → n < 62
 unfolding memberRight
 member-room vlan n x id there e =
     ltb-true n 62
@@ -72,10 +68,10 @@ pad-set l n low h e =
 
 -- a store after the last member: the members then, and that they stand at the front of the 62
 module _ (lows : List ℕ) (n low : ℕ) (room : n < 62) (all : length lows ≡ 62) where
-  pub store-members : take (n + 1) (set lows n low) ≡ take n lows ++ (low ∷ [])
+  store-members : take (n + 1) (set lows n low) ≡ take n lows ++ (low ∷ [])
   store-members = rw add-one (take-suc-set lows n low (omega arith))
 
-  pub store-padded : lows ≡ pad (take n lows) → set lows n low ≡ pad (take (n + 1) (set lows n low))
+  store-padded : lows ≡ pad (take n lows) → set lows n low ≡ pad (take (n + 1) (set lows n low))
   store-padded e =
       let k : length (take n lows) ≡ n = length-take-le n lows (omega arith) in
       ap (λ (l : List ℕ). set l n low) e ∙ pad-set (take n lows) n low room k ∙ ap pad (sym store-members)
@@ -91,14 +87,14 @@ none-right count false = refl
 
 -- Where the reading of a region stands: n members are at the front of the 62 numbers, and the rest of the region decides
 pub record Reading (s : List ℕ) (vlan : ℕ) (lows : List ℕ) (n at : ℕ) : Type 0 where
-  pub inside : at ≤ length s
-  pub reached : Reached s at
-  pub few : n ≤ 62
-  pub places : length lows ≡ 62
-  pub padded : lows ≡ pad (take n lows)
-  pub rest : membersIn s vlan ≡ choose (wellFormed s) (collect s vlan (take n lows) (tlvs s at)) nobody
+  inside : at ≤ length s
+  reached : Reached s at
+  few : n ≤ 62
+  places : length lows ≡ 62
+  padded : lows ≡ pad (take n lows)
+  rest : membersIn s vlan ≡ choose (wellFormed s) (collect s vlan (take n lows) (tlvs s at)) nobody
 
-pub reading-starts : (s : List ℕ) (vlan : ℕ) → Reading s vlan (replicate 62 0) 0 0
+reading-starts : (s : List ℕ) (vlan : ℕ) → Reading s vlan (replicate 62 0) 0 0
 unfolding pad membersIn
 reading-starts s vlan = record { inside = omega arith; reached = refl; few = omega arith; places = refl; padded = refl; rest = refl }
 
@@ -106,7 +102,7 @@ module _ (s : List ℕ) (vlan : ℕ) (lows : List ℕ) (n at : ℕ) (r : Reading
   read-so-far : length (take n lows) ≡ n
   read-so-far = length-take-le n lows (omega arith)
 
-  pub has-room : (x : Tlv) → rightAfter s vlan (take n lows) n x ≡ true → n < 62
+  has-room : (x : Tlv) → rightAfter s vlan (take n lows) n x ≡ true → n < 62
   has-room x b = member-room vlan n x (leAt 4 s (x .start)) (elem (lowAt s x) (take n lows)) b
 
   -- what a TLV makes of the members before it
@@ -114,11 +110,10 @@ module _ (s : List ℕ) (vlan : ℕ) (lows : List ℕ) (n at : ℕ) (r : Reading
       → membersIn s vlan ≡ choose (wellFormed s) (choose b (collect s vlan (take n lows ++ (lowAt s x ∷ [])) (tlvs s (tlvEnd x))) nobody) nobody
   takes x b e h = r .rest ∙ rw (tlvs-next s at x e, collect-cons s vlan (take n lows) x (tlvs s (tlvEnd x)) b (rw read-so-far h))
 
-  pub reading-next : (x : Tlv) (m : ℕ) → stepAt s at ≡ Next x → m ≡ after at (stepAt s at) → rightAfter s vlan (take n lows) n x ≡ true
-      → Reading s vlan (set lows n (lowAt s x)) (n + 1) m
-  reading-next x m e g b =
+  reading-next : (x : Tlv) → stepAt s at ≡ Next x → rightAfter s vlan (take n lows) n x ≡ true → Reading s vlan (set lows n (lowAt s x)) (n + 1) (after at (stepAt s at))
+  reading-next x e b =
       let room = has-room x b in
-      rw (g ∙ after-next s at x e)
+      rw (after-next s at x e)
       (record {
         inside = step-inside s at x e .fits;
         reached = reached-next s at x e (r .reached);
@@ -128,13 +123,89 @@ module _ (s : List ℕ) (vlan : ℕ) (lows : List ℕ) (n at : ℕ) (r : Reading
         rest = rw (store-members lows n (lowAt s x) room (r .places)) (takes x true e b);
       })
 
-  pub reading-fails : (x : Tlv) → stepAt s at ≡ Next x → rightAfter s vlan (take n lows) n x ≡ false → membersIn s vlan ≡ nobody
+  reading-fails : (x : Tlv) → stepAt s at ≡ Next x → rightAfter s vlan (take n lows) n x ≡ false → membersIn s vlan ≡ nobody
   reading-fails x e b = takes x false e b ∙ by-test (wellFormed s) (λ p. simp p) (λ p. simp p)
 
-  pub reading-ends : (count : ℕ) → stepAt s at ≡ End
+  reading-ends : (count : ℕ) → stepAt s at ≡ End
       → record { right = leb 1 count && leb count 62 && eqb n count; lows = lows } ≡ listed count (membersIn s vlan)
   unfolding listed membersRight collect
   reading-ends count e = rw (r .rest, reached-end s at e (r .reached), tlvs-end s at e, read-so-far, ← r .padded)
 
-  pub reading-stops : stepAt s at ≡ Fault → membersIn s vlan ≡ nobody
+  reading-stops : stepAt s at ≡ Fault → membersIn s vlan ≡ nobody
   reading-stops e = r .rest ∙ rw (reached-fault s at e (r .reached))
+
+-- Where the list stands: as its members so far leave it, or past a TLV that is no member, with 63 for their number
+pub record Standing (s : List ℕ) (vlan : ℕ) (lows : List ℕ) (n at : ℕ) : Type 0 where
+  pub inside : at ≤ length s
+  pub few : n ≤ 63
+  pub reads : n ≤ 62 → Reading s vlan lows n at
+  pub fails : 62 < n → membersIn s vlan ≡ nobody
+
+pub standing-starts : (s : List ℕ) (vlan : ℕ) → Standing s vlan (replicate 62 0) 0 0
+standing-starts s vlan = record { inside = omega arith; few = omega arith; reads = λ _. reading-starts s vlan; fails = λ h. absurd (omega arith) }
+
+-- neither test of a disjunction holds; or one does
+neither : (a b : Bool) → Holds (not (a || b)) → Holds (not a) × (b ≡ false)
+neither false false h = (tt, refl)
+neither false true h = absurd h
+neither true b h = absurd h
+
+either : (a b : Bool) → b ≡ false → Holds (a || b) → Holds a
+either true b e h = tt
+either false false e h = h
+either false true e h = true-or-false true refl e
+
+module _ (s : List ℕ) (vlan : ℕ) (lows : List ℕ) (n at : ℕ) (w : Standing s vlan lows n at) where
+  module _ (goes : Holds (not (stops (stepAt s at) || ltb 62 n))) where
+    room : n ≤ 62
+    room = ltb-false 62 n (neither (stops (stepAt s at)) (ltb 62 n) goes .1)
+
+    met : (x : Tlv) × (stepAt s at ≡ Next x)
+    met = goes-on (stepAt s at) (neither (stops (stepAt s at)) (ltb 62 n) goes .0)
+
+    pub standing-less : length s - after at (stepAt s at) < length s - at
+    standing-less = after-less s at _ (met .1)
+
+    -- a TLV that is a member is added, and one that is none fails the list
+    standing-to : (x : Tlv) → stepAt s at ≡ Next x
+        → Standing s vlan (stored s vlan lows n (Next x)) (counted s vlan lows n (Next x)) (after at (stepAt s at))
+    unfolding stored counted
+    standing-to x e =
+        by-test (rightAfter s vlan (take n lows) n x)
+        (λ b. let r = has-room s vlan lows n at (w .reads room) x b in
+        simp b (record {
+          inside = after-inside;
+          few = omega arith;
+          reads = λ _. reading-next s vlan lows n at (w .reads room) x e b;
+          fails = λ h. absurd (omega arith);
+        }))
+        (λ b. simp b (record {
+          inside = after-inside;
+          few = omega arith;
+          reads = λ h. absurd (omega arith);
+          fails = λ _. reading-fails s vlan lows n at (w .reads room) x e b;
+        }))
+      where
+        after-inside : after at (stepAt s at) ≤ length s
+        after-inside = rw (after-next s at x e) (step-inside s at x e .fits)
+
+    pub standing-on : Standing s vlan (stored s vlan lows n (stepAt s at)) (counted s vlan lows n (stepAt s at)) (after at (stepAt s at))
+    standing-on =
+        subst (λ (t : Step). Standing s vlan (stored s vlan lows n t) (counted s vlan lows n t) (after at (stepAt s at))) (sym (met .1)) (standing-to (met .0) (met .1))
+
+  ends-at : (count : ℕ) (t : Step) → stepAt s at ≡ t → n ≤ 62 → Holds (stops t) → endedAt t lows n count ≡ listed count (membersIn s vlan)
+  unfolding stops endedAt isEnd listed pad
+  ends-at count (Next x) e few h = absurd h
+  ends-at count End e few h = simp (le-leb n 62 few) (reading-ends s vlan lows n at (w .reads few) count e)
+  ends-at count Fault e few h = rw (reading-stops s vlan lows n at (w .reads few) e, none-right count false)
+
+  fails-at : (count : ℕ) (t : Step) → 62 < n → endedAt t lows n count ≡ listed count (membersIn s vlan)
+  unfolding endedAt listed pad
+  fails-at count t h =
+      rw (w .fails h, none-right count false) (by-test (isEnd t) (λ p. simp (p, lt-leb n 62 h)) (λ p. simp p))
+
+  pub standing-ends : (count : ℕ) → Holds (stops (stepAt s at) || ltb 62 n) → endedAt (stepAt s at) lows n count ≡ listed count (membersIn s vlan)
+  standing-ends count h =
+      by-lt 62 n
+      (λ l p. fails-at count (stepAt s at) l)
+      (λ l p. ends-at count (stepAt s at) refl l (either (stops (stepAt s at)) (ltb 62 n) p h))

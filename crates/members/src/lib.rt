@@ -1,10 +1,14 @@
 // The members in GROUP_IDS: in order, counted, distinct, of type 0 and of the group's VLAN.
 ghost use mathlib.Core.Path.{_≡_};
-ghost use mathlib.Core.Bool.{Bool};
+ghost use mathlib.Core.Bool.{Bool, _||_};
 ghost use mathlib.Core.List.{[]};
-ghost use Prim.Native.Nat.{ℕ};
+ghost use Prim.Native.Nat.{ℕ, _≤_};
+ghost use lib.ListN.{take};
+ghost use lib.Dec.{ltb};
+ghost use Rattle.tlv.specs.Index.{stops};
 ghost use Rattle.rules.specs.Members.{elem, memberRight, membersIn};
 ghost use Rattle.members.specs.Listed.{listed};
+ghost use Rattle.members.specs.Taking.{counted, stored, endedAt};
 use rules::Step;
 use rules::Tlv;
 use tlv::reader;
@@ -25,17 +29,20 @@ pub fn none() -> Members
     }
 }
 
-fn contains(lows: &[u16], low: u16) -> bool
-    ensures { λ r. ⌜ r ≡ elem low (now (lows .entry)) ⌝ }
+// The first n numbers have this one among them. All are compared: a search that stops early takes twice as long on lists that are right.
+fn contains(lows: &[u16; 62], n: usize, low: u16) -> bool
+    requires { ⌜ n ≤ 62 ⌝ }
+    ensures { λ r. ⌜ r ≡ elem low (take n (now (lows .entry))) ⌝ }
 {
+    let all = &lows[..];
+    let front = &all[..n];
+    let mut there = false;
     let mut i = 0;
-    while i < lows.len() {
-        if lows[i] == low {
-            return true;
-        }
+    while i < front.len() {
+        there = there | (front[i] == low);
         i += 1;
     }
-    false
+    there
 }
 
 // The TLV after n members is a member of a group with this VLAN; `there`: its low bits are among those before it.
@@ -46,7 +53,7 @@ fn member_right(vlan: u16, n: usize, x: Tlv, id: u32, there: bool) -> bool
         return false;
     }
     let kind = n as u32 + 1;
-    let rule = tlv::fields::rule_of(kind);
+    let rule = fields::rule_of(kind);
     (x.kind == kind)
         & (x.size == rule.member_width as usize)
         & (group_id::type_of(id) == 0)
@@ -54,34 +61,62 @@ fn member_right(vlan: u16, n: usize, x: Tlv, id: u32, there: bool) -> bool
         & !there
 }
 
-// The members in a region, compared with GROUP_COUNT.
+// A step after n members: it adds its low bits to them, and their number after it is given, 63 where it is no member of the group.
+fn add(s: &[u8], vlan: u16, lows: &mut [u16; 62], n: usize, step: Step) -> usize
+    ensures { λ r. ⌜ (r ≡ counted (now (s .entry)) vlan (now (lows .entry)) n step) × (now (lows .exit) ≡ stored (now (s .entry)) vlan (now (lows .entry)) n step) ⌝ }
+{
+    match step {
+        Step::Next(x) => {
+            if 62 <= n {
+                return 63;
+            }
+            let id = wire::le32(s, x.start);
+            let low = group_id::low_of(id);
+            if !member_right(vlan, n, x, id, contains(lows, n, low)) {
+                return 63;
+            }
+            lows[n] = low;
+            n + 1
+        }
+        Step::End => 63,
+        Step::Fault => 63,
+    }
+}
+
+// What is read of a list that stops at a step after n members, compared with GROUP_COUNT.
+fn ended(step: Step, lows: [u16; 62], n: usize, count: u64) -> Members
+    ensures { λ r. ⌜ r ≡ endedAt step lows n count ⌝ }
+{
+    if tlv::is_end(step) & (n <= 62) {
+        Members {
+            right: (1 <= count) & (count <= 62) & (n as u64 == count),
+            lows: lows,
+        }
+    } else {
+        none()
+    }
+}
+
+// The list stops where the region does, or after a TLV that is no member.
+fn halts(step: Step, n: usize) -> bool
+    ensures { λ r. ⌜ r ≡ (stops step || ltb 62 n) ⌝ }
+{
+    tlv::stops(step) | (62 < n)
+}
+
+// The members in a region, compared with GROUP_COUNT. One reader goes over the region, and is kept in a local over the loop.
 pub fn read(s: &[u8], vlan: u16, count: u64) -> Members
     ensures { λ r. ⌜ r ≡ listed count (membersIn (now (s .entry)) vlan) ⌝ }
 {
+    let mut r = reader::new(s, 0);
     let mut lows = [0u16; 62];
     let mut n = 0;
-    let mut at = 0;
     loop {
-        let reading = reader::read(s, at);
-        let step = reading.step;
-        match step {
-            Step::Next(x) => {
-                let id = wire::le32(s, x.start);
-                let low = group_id::low_of(id);
-                if !member_right(vlan, n, x, id, contains(&lows[..n], low)) {
-                    return none();
-                }
-                lows[n] = low;
-                n += 1;
-                at = reading.at;
-            }
-            Step::End => {
-                return Members {
-                    right: (1 <= count) & (count <= 62) & (n as u64 == count),
-                    lows: lows,
-                };
-            }
-            Step::Fault => return none(),
+        let step = reader::next(r);
+        if halts(step, n) {
+            return ended(step, lows, n, count);
         }
+        n = add(s, vlan, &mut lows, n, step);
+        r = reader::skip(r, step);
     }
 }

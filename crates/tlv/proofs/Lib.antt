@@ -1,3 +1,2 @@
 pub mod Held
-pub mod Walking
-pub mod Widths
+pub mod Indexing

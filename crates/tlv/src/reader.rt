@@ -1,5 +1,5 @@
 // A reader of a region, which holds the borrowed payload and a position. Functions over a struct that holds a reference are proved by
-// walks, so those here are thin: `step` and `after` do the work on a slice and numbers, and other code calls `read`.
+// walks, so those here are thin: `step` and `after` do the work on a slice and numbers.
 ghost use mathlib.Core.Path.{_≡_};
 ghost use Prim.Native.Nat.{_<_, _^_};
 ghost use Rattle.rules.specs.Region.{valueSize, filled as Region·filled, stepAt, after as Region·after};
@@ -7,7 +7,7 @@ use rules::Step;
 use rules::Tlv;
 
 // The length of a value, from its TLV's length field.
-fn value_size(field: u16) -> usize
+pub fn value_size(field: u16) -> usize
     ensures { λ r. ⌜ r ≡ valueSize field ⌝ }
 {
     field as usize
@@ -62,50 +62,26 @@ pub struct Reader<'a> {
     at: usize,
 }
 
-// What was read, and the position after it.
-pub struct Reading {
-    pub step: Step,
-    pub at: usize,
-}
-
-fn new<'a>(payload: &'a [u8], at: usize) -> Reader<'a>
+pub fn new<'a>(payload: &'a [u8], at: usize) -> Reader<'a>
     ensures { λ r. ⌜ (r .payload ≡ payload .entry) × (r .at ≡ at) ⌝ }
 {
     Reader { payload, at }
 }
 
 // The TLV at the position, the end or a fault.
-fn next<'a>(r: Reader<'a>) -> Step
+pub fn next<'a>(r: Reader<'a>) -> Step
     ensures { λ s. ⌜ s ≡ stepAt (now (r .entry .payload)) (r .entry .at) ⌝ }
 {
     step(r.payload, r.at)
 }
 
 // The reader past the step that was read at its position.
-fn skip<'a>(r: Reader<'a>, step: Step) -> Reader<'a>
+pub fn skip<'a>(r: Reader<'a>, step: Step) -> Reader<'a>
     requires { ⌜ Region·after (r .at) step < 2 ^ 64 ⌝ }
     ensures { λ q. ⌜ (q .payload ≡ r .entry .payload) × (q .at ≡ Region·after (r .entry .at) step) ⌝ }
 {
     Reader {
         payload: r.payload,
         at: after(r.at, step),
-    }
-}
-
-fn position<'a>(r: Reader<'a>) -> usize
-    ensures { λ n. ⌜ n ≡ r .entry .at ⌝ }
-{
-    r.at
-}
-
-// What a reader at a position of a region reads there, and where it then stands.
-pub fn read(payload: &[u8], at: usize) -> Reading
-    ensures { λ r. ⌜ (r .step ≡ stepAt (now (payload .entry)) at) × (r .at ≡ Region·after at (stepAt (now (payload .entry)) at)) ⌝ }
-{
-    let r = new(payload, at);
-    let step = next(r);
-    Reading {
-        step: step,
-        at: position(skip(r, step)),
     }
 }

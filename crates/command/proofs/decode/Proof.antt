@@ -4,21 +4,20 @@ use Rattle.rules.specs.Fields.{numberIn, nestIn}
 use Rattle.rules.specs.Region.{wellFormed}
 use denote.Ref.{now}
 use mathlib.Core.Path.{_≡_}
-use Rattle.rules.specs.Decode.{need, commandType, commandInfo, decode}
 use borrow.Author.Tests.{not-true, not-false}
 use mathlib.Core.Bool.{_&&_}
 use borrow.Author.Needs.{needs}
 use Rattle.command.proofs.decode.Statement.{statement}
 use Rattle.command.proofs.decode.Tie as tie
 
-find-requires : tie.Need-find-requires
-find-requires c κs = search needs
+index-of-requires : tie.Need-index-of-requires
+index-of-requires c κs = search needs
 
-find-requires-2 : tie.Need-find-requires-2
-find-requires-2 c κs = search needs
+found-requires : tie.Need-found-requires
+found-requires c κs = search needs
 
-well-formed-requires : tie.Need-well-formed-requires
-well-formed-requires c κs = search needs
+found-requires-2 : tie.Need-found-requires-2
+found-requires-2 c κs = search needs
 
 is-at-requires : tie.Need-is-at-requires
 is-at-requires c κs = search needs
@@ -33,36 +32,39 @@ returns : tie.Need-returns
 unfolding decode need commandType commandInfo
 returns c =
     let i = c .before .before in
-    let w = i .before .before in
+    let f = i .before .before .before .before .before in
+    let x = f .before .before .before in
     simp (
-      ← w .before .before .find .ensures,
-      ← w .before .find2 .ensures,
-      ← w .well-formed .ensures,
+      ← f .found .ensures,
+      ← i .before .before .found2 .ensures,
+      ← x .index-of .ensures .1,
       ← i .before .is-at .ensures,
       ← i .is-at2 .ensures,
-      not-true (w .well-formed .result && i .before .is-at .result && i .is-at2 .result) (c .before .if1 .taken),
+      not-true (x .index-of .result .whole && i .before .is-at .result && i .is-at2 .result) (c .before .if1 .taken),
     )
     (c .refused .ensures)
 
 -- what decides past the top faults
 past-top : (c : tie.Else1)
-    → let f = c .before .before .before .before in
-    let a = f .before .before .before .args in
+    → let g = c .before .before .before in
+    let f = g .before .before .before in
+    let a = f .before .before .before .before .before .args in
     let s = now (a .payload) in
     decode (a .ports) s
-    ≡ need (isCommand (numberIn s 2 (f .before .find .result))) Enotsup
-    (need (wellFormed (nestIn s (f .find2 .result))) Einval (commandIn (a .ports) (numberIn s 2 (f .before .find .result)) (nestIn s (f .find2 .result))))
+    ≡ need (isCommand (numberIn s 2 (f .found .result))) Enotsup
+    (need (wellFormed (nestIn s (g .found2 .result))) Einval (commandIn (a .ports) (numberIn s 2 (f .found .result)) (nestIn s (g .found2 .result))))
 unfolding decode need commandType commandInfo
 past-top c =
     let i = c .before in
-    let w = i .before .before in
+    let f = i .before .before .before .before .before in
+    let x = f .before .before .before in
     simp (
-      ← w .before .before .find .ensures,
-      ← w .before .find2 .ensures,
-      ← w .well-formed .ensures,
+      ← f .found .ensures,
+      ← i .before .before .found2 .ensures,
+      ← x .index-of .ensures .1,
       ← i .before .is-at .ensures,
       ← i .is-at2 .ensures,
-      not-false (w .well-formed .result && i .before .is-at .result && i .is-at2 .result) (c .if1 .left),
+      not-false (x .index-of .result .whole && i .before .is-at .result && i .is-at2 .result) (c .if1 .left),
     )
 
 number-in-requires : tie.Need-number-in-requires
@@ -84,10 +86,10 @@ returns-2 c =
 -- what decides past an unknown CMD_TYPE
 past-type : (c : tie.Else2)
     → let n = c .before .before in
-    let f = n .before .before .before .before .before in
-    let a = f .before .before .before .args in
+    let g = n .before .before .before .before in
+    let a = g .before .before .before .before .before .before .before .before .args in
     let s = now (a .payload) in
-    decode (a .ports) s ≡ need (wellFormed (nestIn s (f .find2 .result))) Einval (commandIn (a .ports) (n .number-in .result) (nestIn s (f .find2 .result)))
+    decode (a .ports) s ≡ need (wellFormed (nestIn s (g .found2 .result))) Einval (commandIn (a .ports) (n .number-in .result) (nestIn s (g .found2 .result)))
 unfolding need
 past-type c =
     let k = c .before in
@@ -97,8 +99,8 @@ past-type c =
 nest-in-requires : tie.Need-nest-in-requires
 nest-in-requires c κs = search needs
 
-well-formed-requires-2 : tie.Need-well-formed-requires-2
-well-formed-requires-2 c κs = search needs
+index-of-requires-2 : tie.Need-index-of-requires-2
+index-of-requires-2 c κs = search needs
 
 refused-requires-3 : tie.Need-refused-requires-3
 refused-requires-3 c κs = search needs
@@ -108,7 +110,7 @@ unfolding need
 returns-3 c =
     let w = c .before .before in
     rw (past-type (w .before .before))
-    (simp (← w .before .nest-in .ensures, ← w .well-formed2 .ensures, not-true (w .well-formed2 .result) (c .before .if3 .taken)) (c .refused3 .ensures))
+    (simp (← w .before .nest-in .ensures, ← w .index-of2 .ensures .1, not-true (w .index-of2 .result .whole) (c .before .if3 .taken)) (c .refused3 .ensures))
 
 command-in-requires : tie.Need-command-in-requires
 command-in-requires c κs = search needs
@@ -116,17 +118,18 @@ command-in-requires c κs = search needs
 returns-4 : tie.Need-returns-4
 unfolding need
 returns-4 c =
-    let w = c .before .before in
+    let e = c .before .before .before in
+    let w = e .before in
     rw (past-type (w .before .before))
-    (simp (← w .before .nest-in .ensures, ← w .well-formed2 .ensures, not-false (w .well-formed2 .result) (c .before .if3 .left)) (c .command-in .ensures))
+    (simp (← w .before .nest-in .ensures, ← w .index-of2 .ensures .1, not-false (w .index-of2 .result .whole) (e .if3 .left)) (c .command-in .ensures))
 
 pub decode-spec : {M : Type 1} → statement M
 decode-spec =
     tie.close
     (tie.spec
-    find-requires
-    find-requires-2
-    well-formed-requires
+    index-of-requires
+    found-requires
+    found-requires-2
     is-at-requires
     is-at-requires-2
     refused-requires
@@ -136,7 +139,7 @@ decode-spec =
     refused-requires-2
     returns-2
     nest-in-requires
-    well-formed-requires-2
+    index-of-requires-2
     refused-requires-3
     returns-3
     command-in-requires

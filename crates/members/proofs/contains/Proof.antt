@@ -1,31 +1,40 @@
-use Rattle.members.proofs.Collect.{elem-here, elem-next, elem-end}
-use Rattle.rules.specs.Members.{elem}
-use lib.ListN.{length, drop}
-use mathlib.Core.Path.{_≡_, refl, sym, _∙_}
+-- `members::contains` meets its contract: what was found so far, or what is found from here on, is the answer.
+-- Assumes nothing.
 use Prim.Native.Nat.{_≤_, _-_}
+use mathlib.Core.Bool.{_||_}
+use mathlib.Core.Path.{_≡_, refl, sym, _∙_}
+use lib.Seq.{length-take-le}
+use lib.ListN.{length, take, drop}
+use denote.Ref.{now}
+use native.Mathlib.Omega.{arith}
 use borrow.Author.Needs.{needs}
+use Rattle.rules.specs.Members.{elem}
+use Rattle.members.proofs.Collect.{found-next, found-end}
 use Rattle.members.proofs.contains.Statement.{statement}
 use Rattle.members.proofs.contains.Tie as tie
 
 abbrev Inv-loop : tie.InvT-loop
-Inv-loop lows low i₀ i = (i ≤ length lows) × (elem low (drop i lows) ≡ elem low lows)
+Inv-loop lows n low front there₀ i₀ there i = (i ≤ length front) × ((there || elem low (drop i front)) ≡ elem low front) × (length front ≤ 62)
 
 abbrev μ-loop : tie.MeasureT-loop
-μ-loop lows low i₀ i = length lows - i
+μ-loop lows n low front there₀ i₀ there i = length front - i
+
+front-long : (c : tie.After-front Inv-loop μ-loop) → let a = c .before .before .args in length (take (a .n) (now (a .lows))) ≡ a .n
+front-long c =
+    let a = c .before .before .args in
+    length-take-le (a .n) (now (a .lows)) (omega (arith, c .before .before .pre, c .before .all .given))
+
+slice-aggregate-front : tie.Need-slice-aggregate-front Inv-loop μ-loop
+slice-aggregate-front c = sym (front-long c)
 
 loop-holds : tie.Need-loop-holds Inv-loop μ-loop
-loop-holds c = (search needs, refl)
+loop-holds c = (search needs, refl, omega (arith, c .before .before .pre, front-long c))
 
-mul-if1 : tie.Need-mul-if1 Inv-loop μ-loop
-mul-if1 c = search needs
+mul-there : tie.Need-mul-there Inv-loop μ-loop
+mul-there c = search needs
 
-shared-slice-read-if1 : tie.Need-shared-slice-read-if1 Inv-loop μ-loop
-shared-slice-read-if1 c = search needs
-
-returns : tie.Need-returns Inv-loop μ-loop
-returns c =
-    let l = c .before .before .before .loop in
-    elem-here _ _ (l .i) (c .before .before .loop-test .taken) (c .if1 .taken) ∙ l .inv .1
+shared-slice-read-there : tie.Need-shared-slice-read-there Inv-loop μ-loop
+shared-slice-read-there c = search needs
 
 add-i : tie.Need-add-i Inv-loop μ-loop
 add-i c = search needs
@@ -35,11 +44,11 @@ loop-less c = search needs
 
 loop-again : tie.Need-loop-again Inv-loop μ-loop
 loop-again c =
-    let l = c .before .before .before .loop in
-    (search needs, sym (elem-next _ _ (l .i) (c .before .before .loop-test .taken) (c .if1 .left)) ∙ l .inv .1)
+    let l = c .before .before .loop in
+    (search needs, sym (found-next _ _ (l .i) (l .there) (c .before .loop-test .taken)) ∙ l .inv .1, l .inv .2)
 
-returns-2 : tie.Need-returns-2 Inv-loop μ-loop
-returns-2 c = elem-end _ _ (c .before .loop .i) (c .loop-test .left) ∙ c .before .loop .inv .1
+returns : tie.Need-returns Inv-loop μ-loop
+returns c = found-end _ _ (c .before .loop .i) (c .before .loop .there) (c .loop-test .left) ∙ c .before .loop .inv .1
 
 pub contains-spec : {M : Type 1} → statement M
 contains-spec =
@@ -47,11 +56,11 @@ contains-spec =
     (tie.spec
     Inv-loop
     μ-loop
+    slice-aggregate-front
     loop-holds
-    mul-if1
-    shared-slice-read-if1
-    returns
+    mul-there
+    shared-slice-read-there
     add-i
     loop-less
     loop-again
-    returns-2)
+    returns)

@@ -1,4 +1,4 @@
-use Rattle.tlv.proofs.Widths.{value-below}
+use Rattle.fields.proofs.Widths.{value-below}
 use Rattle.rules.specs.Decode.{flowOf}
 use Rattle.rules.specs.Fields.{ruleOf, ruleIn, rows}
 use denote.Ref.{now}
@@ -16,22 +16,22 @@ value-requires c κs = search needs
 
 word-requires : tie.Need-word-requires
 unfolding ruleOf ruleIn rows
-word-requires c κs = lit≤ tt
+word-requires c κs = search needs
 
 word-requires-2 : tie.Need-word-requires-2
 unfolding ruleOf ruleIn rows
-word-requires-2 c κs = lit≤ tt
+word-requires-2 c κs = search needs
 
 word-requires-3 : tie.Need-word-requires-3
 unfolding ruleOf ruleIn rows
-word-requires-3 c κs = lit≤ tt
+word-requires-3 c κs = search needs
 
 value-requires-2 : tie.Need-value-requires-2
 value-requires-2 c κs = search needs
 
-cast-t9 : tie.Need-cast-t9
+cast-t10 : tie.Need-cast-t10
 unfolding ruleOf ruleIn rows
-cast-t9 c =
+cast-t10 c =
     let b = c .before .before .before .before .before .before in
     let k = b .shared-slice-known .given in
     omega (arith, value-below (now (b .before .args .s)) 9 2 (λ j. k j .fits) (lit≤ tt), c .value2 .ensures)
@@ -59,5 +59,5 @@ flow-of-spec =
     word-requires-2
     word-requires-3
     value-requires-2
-    cast-t9
+    cast-t10
     returns)

@@ -1,22 +1,21 @@
 use Rattle.rules.specs.Decode.{matchOf}
 use Rattle.rules.specs.Fields.{ruleOf, ruleIn, rows}
 use borrow.Author.Tests.{eq-eqb, ne-eqb}
-use lib.Dec.{lit≤}
 use borrow.Author.Needs.{needs}
 use Rattle.command.proofs.flow.match_of.Statement.{statement}
 use Rattle.command.proofs.flow.match_of.Tie as tie
 
 word-requires : tie.Need-word-requires
 unfolding ruleOf ruleIn rows
-word-requires c κs = lit≤ tt
+word-requires c κs = search needs
 
 word-requires-2 : tie.Need-word-requires-2
 unfolding ruleOf ruleIn rows
-word-requires-2 c κs = lit≤ tt
+word-requires-2 c κs = search needs
 
 word-requires-3 : tie.Need-word-requires-3
 unfolding ruleOf ruleIn rows
-word-requires-3 c κs = lit≤ tt
+word-requires-3 c κs = search needs
 
 vlan-requires : tie.Need-vlan-requires
 vlan-requires c κs = search needs
@@ -38,7 +37,7 @@ given-requires-2 c κs = search needs
 
 word-requires-4 : tie.Need-word-requires-4
 unfolding ruleOf ruleIn rows
-word-requires-4 c κs = lit≤ tt
+word-requires-4 c κs = search needs
 
 returns : tie.Need-returns
 unfolding matchOf

@@ -8,14 +8,13 @@ use borrow.Author.Tests.{not-true, not-false}
 use denote.Ref.{now}
 use mathlib.Core.Bool.{_&&_}
 use mathlib.Core.Path.{_≡_, sym, ap, _∙_}
-use lib.Dec.{lit≤}
 use borrow.Author.Needs.{needs}
 use Rattle.command.proofs.group.group_in.Statement.{statement}
 use Rattle.command.proofs.group.group_in.Tie as tie
 
 word-requires : tie.Need-word-requires
 unfolding ruleOf ruleIn rows
-word-requires c κs = lit≤ tt
+word-requires c κs = search needs
 
 members-of-requires : tie.Need-members-of-requires
 members-of-requires c κs = search needs
@@ -57,7 +56,7 @@ group-of-requires : tie.Need-group-of-requires
 group-of-requires c κs =
     let g = c .before .before in
     let f = g .before .fields-right .result in
-    count-fits _ _ _ _ (sym (told g) ∙ and-right f (g .group-allowed .result) (not-false (f && g .group-allowed .result) (c .before .if1 .left)))
+    (search needs, count-fits _ _ _ _ (sym (told g) ∙ and-right f (g .group-allowed .result) (not-false (f && g .group-allowed .result) (c .before .if1 .left))))
 
 group-command-requires : tie.Need-group-command-requires
 group-command-requires c κs = search needs

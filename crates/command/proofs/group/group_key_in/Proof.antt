@@ -4,14 +4,13 @@ use Rattle.rules.specs.Fields.{ruleOf, ruleIn, rows}
 use borrow.Author.Tests.{not-true, not-false}
 use mathlib.Core.Bool.{_&&_}
 use mathlib.Core.Path.{refl}
-use lib.Dec.{lit≤}
 use borrow.Author.Needs.{needs}
 use Rattle.command.proofs.group.group_key_in.Statement.{statement}
 use Rattle.command.proofs.group.group_key_in.Tie as tie
 
 word-requires : tie.Need-word-requires
 unfolding ruleOf ruleIn rows
-word-requires c κs = lit≤ tt
+word-requires c κs = search needs
 
 fields-right-requires : tie.Need-fields-right-requires
 fields-right-requires c κs = search needs

@@ -19,12 +19,12 @@ value-requires c κs = search needs
 value-requires-2 : tie.Need-value-requires-2
 value-requires-2 c κs = search needs
 
-cast-t9 : tie.Need-cast-t9
-cast-t9 c =
+cast-t10 : tie.Need-cast-t10
+cast-t10 c =
     let e = c .before .before in
     let a = e .before .before .args in
     let z : eqb (groupType (a .id)) 0 ≡ false = rw (← e .type-of .ensures) (ne-eqb _ _ (c .before .if1 .left)) in
-    omega (arith, e .before .before .pre z, c .value2 .ensures)
+    omega (arith, e .before .before .pre .1 z, c .value2 .ensures)
 
 returns : tie.Need-returns
 unfolding groupOf
@@ -36,4 +36,4 @@ returns-2 c = simp (← c .before .before .type-of .ensures, ne-eqb _ _ (c .befo
 
 pub group-of-spec : {M : Type 1} → statement M
 group-of-spec =
-    tie.close (tie.spec type-of-requires value-requires value-requires-2 cast-t9 returns returns-2)
+    tie.close (tie.spec type-of-requires value-requires value-requires-2 cast-t10 returns returns-2)

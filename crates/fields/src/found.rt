@@ -1,0 +1,74 @@
+// What the index of a region says of a type, and what a value holds. Every function is equal to a rule of `rules`.
+ghost use mathlib.Core.Path.{_≡_};
+ghost use Prim.Native.Nat.{min, _<_};
+ghost use Rattle.rules.specs.Bytes.{part};
+ghost use Rattle.rules.specs.Region.{lookup};
+ghost use Rattle.rules.specs.Fields.{isAt, numberIn, nestIn};
+ghost use Rattle.tlv.specs.Index.{Indexed};
+use rules::Found;
+use tlv::reader;
+
+// What the region holds of a type, at a width; width 0 is a nest, of any length.
+pub fn found(s: &[u8], places: &[usize; 44], t: u32, width: u8) -> Found
+    requires { ⌜ (Indexed (now s) (now places)) × (t < 44) ⌝ }
+    ensures { λ r. ⌜ r ≡ lookup (now (s .entry)) t width ⌝ }
+{
+    let place = places[t as usize];
+    if place < 8 {
+        if place == 0 {
+            return Found::Absent;
+        }
+        return Found::Fault;
+    }
+    let size = reader::value_size(wire::le16(s, place - 4));
+    if (width == 0) | (size == width as usize) {
+        Found::At(place, size)
+    } else {
+        Found::Fault
+    }
+}
+
+pub fn is_at(f: Found) -> bool
+    ensures { λ r. ⌜ r ≡ isAt f ⌝ }
+{
+    match f {
+        Found::At(_, _) => true,
+        Found::Absent => false,
+        Found::Fault => false,
+    }
+}
+
+// The number in a value, 0 where there is none; of eight bytes at most.
+pub fn number_in(s: &[u8], width: u8, f: Found) -> u64
+    ensures { λ r. ⌜ r ≡ numberIn (now (s .entry)) (min width 8) f ⌝ }
+{
+    match f {
+        Found::At(a, _) => wire::number_at(s, a, width as usize),
+        Found::Absent => 0,
+        Found::Fault => 0,
+    }
+}
+
+// The n bytes from a position, or as many as there are.
+fn part_of(s: &[u8], at: usize, n: usize) -> &[u8]
+    ensures { λ r. ⌜ now r ≡ part n (now (s .entry)) at ⌝ }
+{
+    if s.len() < at {
+        return &s[0..0];
+    }
+    if s.len() - at < n {
+        return &s[at..];
+    }
+    &s[at..at + n]
+}
+
+// The region in a value, empty where there is none.
+pub fn nest_in(s: &[u8], f: Found) -> &[u8]
+    ensures { λ r. ⌜ now r ≡ nestIn (now (s .entry)) f ⌝ }
+{
+    match f {
+        Found::At(a, n) => part_of(s, a, n),
+        Found::Absent => &s[0..0],
+        Found::Fault => &s[0..0],
+    }
+}
