@@ -1,22 +1,34 @@
--- A scan down the live flows that keeps the index of what it found. For any matching test, so for tables 0, 10 and 50 alike.
+-- A scan down the live flows that keeps the place of what it found. For any matching test, so for every table alike.
 -- Assumes nothing.
-use Prim.Native.Nat.{ℕ, zero, suc, _-_, _<_, _≤_}
+use Prim.Native.Nat.{ℕ, zero, suc, _-_, _<_, _≤_, min}
 use mathlib.Core.Bool.{Bool, true, false}
-use mathlib.Core.Option.{Option, none, some}
+use mathlib.Core.Option.{none, some}
 use mathlib.Core.Path.{_≡_, refl, ap, sym, _∙_}
-use mathlib.Core.List.{List}
+use mathlib.Core.List.{List, [], map}
 use native.Mathlib.Omega.{arith}
-use lib.ListN.{length, take, drop, getD, drop-of-length-le}
+use lib.ListN.{length, take, drop, drop-of-length-le, length-map, length-take, List·getD-map}
 use lib.Seq.{drop-cons}
+use lib.Dec.{eqb}
+use borrow.Author.Tests.{ne-eqb}
 use Rattle.rules.specs.Choose.{choose}
 use Rattle.rules.specs.Frame.{better, best, beats}
-use Rattle.rules.specs.Tables.{freeFlow}
+use Rattle.rules.specs.Rows.{entryIn}
+use Rattle.rules.specs.Places.{live}
+use Rattle.rules.specs.Tables.{liveFlows}
 use Rattle.rules.specs.declared.FlowEntry.{FlowEntry}
-use Rattle.rules.proofs.Cases.{not-both}
-use Rattle.deciding.specs.Way.{isTaken}
+use Rattle.rules.proofs.Cases.{by-test, not-both}
 use Rattle.rules.proofs.Arrays.{live-at}
+use Rattle.deciding.specs.Way.{matchesIn, isTaken, flowAt, Betters, Scanned, Skips, Decides}
 
--- the rule's cases, on plain values: e is the next flow, b what was found
+-- a flow of another table
+pub other-table : (f : FlowEntry) (table port vlan mac : ℕ) → (f .table ≡ table → ⊥) → matchesIn table port vlan mac f ≡ false
+unfolding matchesIn
+other-table f table port vlan mac n =
+    let t = ne-eqb (f .table) table n in
+    by-test (eqb table 0) (λ p. simp (p, t)) (λ p. by-test (eqb table 10) (λ q. simp (p, q, t)) (λ q. simp (p, q, t)))
+
+-- ---- The better of two, on plain values: e is the next flow, b what was found
+
 module _ (m : FlowEntry → Bool) (e b : FlowEntry) where
   taken : (found : Bool) → m e ≡ true → isTaken found e b ≡ true → some e ≡ better m beats e (choose found (some b) none)
   unfolding isTaken
@@ -32,41 +44,61 @@ module _ (m : FlowEntry → Bool) (e b : FlowEntry) where
   passed true p = simp p
   passed false p = simp p
 
+module _ {rows : List (List ℕ)} {table port vlan mac i at : ℕ} {found : Bool} where
+  pub better-passed : at < 256 → matchesIn table port vlan mac (flowAt rows i) ≡ false → Betters rows table port vlan mac i found at found at
+  better-passed h p = record { inside = h; is = passed (matchesIn table port vlan mac) (flowAt rows i) (flowAt rows at) found p }
+
+  module _ (p : matchesIn table port vlan mac (flowAt rows i) ≡ true) {e b : FlowEntry} (u : e ≡ flowAt rows i) (v : b ≡ flowAt rows at) where
+    pub better-taken : i < 256 → isTaken found e b ≡ true → Betters rows table port vlan mac i found at true i
+    better-taken h q =
+        record { inside = h; is = taken (matchesIn table port vlan mac) (flowAt rows i) (flowAt rows at) found p (rw (u, v) at q) }
+
+    pub better-kept : at < 256 → isTaken found e b ≡ false → Betters rows table port vlan mac i found at found at
+    better-kept h q =
+        record { inside = h; is = kept (matchesIn table port vlan mac) (flowAt rows i) (flowAt rows at) found p (rw (u, v) at q) }
+
+-- ---- The scan
+
 -- what is best from the flow before i on
-best-less : (m : FlowEntry → Bool) (count : ℕ) (es : List FlowEntry) (i : ℕ) → 0 < i → i ≤ length (take count es)
-    → best m beats (drop (i - 1) (take count es)) ≡ better m beats (getD es (i - 1) freeFlow) (best m beats (drop i (take count es)))
-unfolding best
-best-less m count es zero h k = absurd (omega arith)
-best-less m count es (suc i) h k =
+best-less : (m : FlowEntry → Bool) (count : ℕ) (rows : List (List ℕ)) (i : ℕ) → 0 < i → i ≤ length (liveFlows count rows)
+    → best m beats (drop (i - 1) (liveFlows count rows)) ≡ better m beats (flowAt rows (i - 1)) (best m beats (drop i (liveFlows count rows)))
+unfolding best live
+best-less m count rows zero h k = absurd (omega arith)
+best-less m count rows (suc i) h k =
     let e : suc i - 1 ≡ i = omega arith in
-    rw (e, drop-cons (take count es) i freeFlow (omega arith), live-at count i freeFlow es (omega arith)) refl
+    rw (e, drop-cons (map entryIn (take count rows)) i (entryIn []) (omega arith), List·getD-map entryIn (take count rows) i [], live-at count i [] rows (omega (arith, length-map (take count rows) entryIn))) refl
 
--- The scan has come down to i, and has found what stands at an index, or nothing
-pub record Scanned (m : FlowEntry → Bool) (count : ℕ) (es : List FlowEntry) (i : ℕ) (found : Bool) (at : ℕ) : Type 0 where
-  pub is : choose found (some (getD es at freeFlow)) none ≡ best m beats (drop i (take count es))
+module _ {count : ℕ} {rows : List (List ℕ)} {table port vlan mac : ℕ} where
+  pub scan-starts : {i at : ℕ} {found : Bool} → length rows ≡ 256 → i ≡ min count 256 → (found ≡ false) × (at ≡ 0) → Scanned count rows table port vlan mac i found at
+  unfolding best live
+  scan-starts {i} l e z =
+      let n : i ≡ length (map entryIn (take count rows)) = omega (arith, length-map (take count rows) entryIn, length-take count rows) in
+      record { within = omega arith; few = omega arith; inside = omega (arith, z .1); is = rw (z .0, drop-of-length-le (map entryIn (take count rows)) {i = i} (omega arith)) }
 
-module _ {m : FlowEntry → Bool} {count : ℕ} {es : List FlowEntry} where
-  pub scan-starts : {i : ℕ} (at : ℕ) → i ≡ length (take count es) → Scanned m count es i false at
-  unfolding best
-  scan-starts {i} at e = record { is = rw (drop-of-length-le (take count es) {i = i} (omega arith)) }
+  pub scan-on : {i at at′ : ℕ} {found found′ : Bool} → Scanned count rows table port vlan mac i found at → 0 < i
+      → Betters rows table port vlan mac (i - 1) found at found′ at′ → Scanned count rows table port vlan mac (i - 1) found′ at′
+  scan-on {i} s h b =
+      record {
+        within = omega (arith, s .within);
+        few = omega (arith, s .few);
+        inside = b .inside;
+        is = b .is ∙ ap (better (matchesIn table port vlan mac) beats (flowAt rows (i - 1))) (s .is) ∙ sym (best-less (matchesIn table port vlan mac) count rows i h (s .within));
+      }
 
-  module _ {i at : ℕ} {found : Bool} (s : Scanned m count es i found at) (h : 0 < i) (k : i ≤ length (take count es)) where
-    onward : {r : Option FlowEntry} → r ≡ better m beats (getD es (i - 1) freeFlow) (choose found (some (getD es at freeFlow)) none)
-        → r ≡ best m beats (drop (i - 1) (take count es))
-    onward e = e ∙ ap (better m beats (getD es (i - 1) freeFlow)) (s .is) ∙ sym (best-less m count es i h k)
+  -- at the end it has found what decides
+  pub scan-ends : {i at : ℕ} {found : Bool} → Scanned count rows table port vlan mac i found at → i ≡ 0 → Decides count rows table port vlan mac found at
+  scan-ends s z = record { inside = s .inside; is = let y = s .is in rw z at y }
 
-    pub scan-taken : m (getD es (i - 1) freeFlow) ≡ true → isTaken found (getD es (i - 1) freeFlow) (getD es at freeFlow) ≡ true
-        → Scanned m count es (i - 1) true (i - 1)
-    scan-taken p q = record { is = onward (taken m (getD es (i - 1) freeFlow) (getD es at freeFlow) found p q) }
+-- ---- Flows that are skipped
 
-    pub scan-kept : m (getD es (i - 1) freeFlow) ≡ true → isTaken found (getD es (i - 1) freeFlow) (getD es at freeFlow) ≡ false
-        → Scanned m count es (i - 1) found at
-    scan-kept p q = record { is = onward (kept m (getD es (i - 1) freeFlow) (getD es at freeFlow) found p q) }
+module _ {rows : List (List ℕ)} {table port vlan mac from : ℕ} where
+  pub skips-none : Skips rows table port vlan mac from from
+  skips-none = record { down = omega arith; is = λ count found at s. s }
 
-    pub scan-passed : m (getD es (i - 1) freeFlow) ≡ false → Scanned m count es (i - 1) found at
-    scan-passed p = record { is = onward (passed m (getD es (i - 1) freeFlow) (getD es at freeFlow) found p) }
-
-  -- at the end it has found the deciding flow
-  pub scan-ends : {i at : ℕ} {found : Bool} → Scanned m count es i found at → i ≡ 0
-      → choose found (some (getD es at freeFlow)) none ≡ best m beats (take count es)
-  scan-ends {i} s e = let z = s .is in rw e at z
+  pub skips-more : {i : ℕ} → Skips rows table port vlan mac from i → 0 < i → matchesIn table port vlan mac (flowAt rows (i - 1)) ≡ false
+      → Skips rows table port vlan mac from (i - 1)
+  skips-more k h p =
+      record {
+        down = omega (arith, k .down);
+        is = λ count found at s. let t = k .is count found at s in scan-on t h (better-passed (t .inside) p);
+      }

@@ -1,13 +1,12 @@
 // The frame call. It has no `requires`: whatever the registers and tables hold, it gives exactly what the rules say.
 use rules::Answer;
-use rules::FlowTable;
-use rules::GroupTable;
+use rules::Counts;
 use rules::Registers;
 ghost use Prim.Native.Nat.{_≤_};
 ghost use mathlib.Core.Path.{_≡_};
 ghost use lib.ListN.{length, getD};
 ghost use Rattle.rules.specs.Bytes.{leAt, swap16};
-ghost use Rattle.rules.specs.Tables.{liveFlows, liveGroups};
+ghost use Rattle.rules.specs.Tables.{liveFlows, liveGroups, arrays, tablesOf};
 ghost use Rattle.rules.specs.Frame.{isTagged, isFrame, frameVlan, way, keep, exitOutputs};
 ghost use Rattle.outputs.specs.Outputs.{Lists};
 ghost use Rattle.egress.specs.Outcome.{Outcome};
@@ -56,18 +55,29 @@ fn frame_vlan(f: &[u8]) -> u16
 // The outputs of a frame on a port that is up and enabled.
 fn outputs_from(
     d: Registers,
-    flows: FlowTable,
-    groups: GroupTable,
+    counts: Counts,
+    flows: &[[u32; 16]; 256],
+    heads: &[[u32; 3]; 128],
+    members: &[[u16; 62]; 128],
     port: u32,
     f: &[u8],
     list: &mut [u16],
 ) -> usize
     requires { ⌜ 186 ≤ length (now list) ⌝ }
-    ensures { λ r. ⌜ Lists (keep d port (exitOutputs (liveGroups groups) (way (liveFlows flows) port (now (f .entry))))) r (now (list .entry)) (now (list .exit)) ⌝ }
+    ensures { λ r. ⌜ Lists (keep d port (exitOutputs (liveGroups (counts .groups) (now (heads .entry)) (now (members .entry))) (way (liveFlows (counts .flows) (now (flows .entry))) port (now (f .entry))))) r (now (list .entry)) (now (list .exit)) ⌝ }
 {
-    let w = deciding::way(flows, port, frame_vlan(f), wire::le48(f, 0));
+    let w = deciding::way(flows, counts.flows, port, frame_vlan(f), wire::le48(f, 0));
     if w.found {
-        return outputs::group_outputs(d, groups, port as u64, w.vlan, w.group, list);
+        return outputs::group_outputs(
+            d,
+            heads,
+            members,
+            counts.groups,
+            port as u64,
+            w.vlan,
+            w.group,
+            list,
+        );
     }
     0
 }
@@ -81,13 +91,15 @@ fn answered(answer: Answer, outputs: usize) -> Framed
 // The frame call: a frame comes in on a port, and its outputs are written to the start of the list. A refused call writes nothing.
 pub fn frame(
     d: Registers,
-    flows: FlowTable,
-    groups: GroupTable,
+    counts: Counts,
+    flows: &[[u32; 16]; 256],
+    heads: &[[u32; 3]; 128],
+    members: &[[u16; 62]; 128],
     port: u64,
     f: &[u8],
     list: &mut [u16],
 ) -> Framed
-    ensures { λ r. ⌜ Outcome d (record { flows = liveFlows flows; groups = liveGroups groups }) port (now (f .entry)) (now (list .entry)) r (now (list .exit)) ⌝ }
+    ensures { λ r. ⌜ Outcome d (tablesOf counts (arrays (now (flows .entry)) (now (heads .entry)) (now (members .entry)))) port (now (f .entry)) (now (list .entry)) r (now (list .exit)) ⌝ }
 {
     if !registers::port_allowed(d, port) {
         return answered(Answer::PortNotAllowed, 0);
@@ -101,6 +113,6 @@ pub fn frame(
     if !registers::is_up(d, port) {
         return answered(Answer::Done, 0);
     }
-    let n = outputs_from(d, flows, groups, port as u32, f, list);
+    let n = outputs_from(d, counts, flows, heads, members, port as u32, f, list);
     answered(Answer::Done, n)
 }

@@ -1,65 +1,80 @@
--- The outputs of members, one after the other: what is left after k members.
+-- The outputs of members, one after the other: what is left after k members. It is the same whatever members the groups have.
 -- Assumes nothing.
 use Prim.Native.Nat.{ℕ, _+_, _*_, _<_, _≤_}
+use mathlib.Core.Bool.{Bool, true, false}
 use mathlib.Core.Option.{none, some}
 use mathlib.Core.Path.{_≡_, refl}
-use mathlib.Core.List.{List, _∷_}
+use mathlib.Core.List.{List, [], _∷_}
 use native.Mathlib.Omega.{arith}
 use native.Mathlib.Numerals.{add-one}
 use lib.ListN.{length, take, drop, getD, drop-of-length-le}
 use lib.Seq.{drop-cons}
 use Rattle.rules.specs.Choose.{choose}
-use Rattle.rules.specs.Keyed.{find}
 use Rattle.rules.specs.GroupId.{groupLow, memberId}
-use Rattle.rules.specs.Tables.{idOf}
+use Rattle.rules.specs.Rows.{flagIn, groupIn}
+use Rattle.rules.specs.Tables.{liveGroups}
 use Rattle.rules.specs.Frame.{Output, outputOf, outputIf, memberOutputs, keep}
 use Rattle.rules.specs.declared.Registers.{Registers}
 use Rattle.rules.specs.declared.GroupEntry.{GroupEntry}
 use Rattle.rules.proofs.Arrays.{live-at}
-use Rattle.outputs.specs.Outputs.{Sends, Lists}
+use Rattle.outputs.specs.Outputs.{Sought, Sends, Resolves}
+use Rattle.outputs.proofs.Search.{found}
 use Rattle.outputs.proofs.Writing.{Writing, writing-starts, writing-sent, writing-ends}
 
-module _ (d : Registers) (ingress : ℕ) (groups : List GroupEntry) (group-vlan vlan : ℕ) (count : ℕ) (lows l₀ : List ℕ) where
+-- the output of a group that was looked up by its ID
+output-is : (vlan id port pop : ℕ) (g : GroupEntry) → g .id ≡ id → port ≡ groupLow id → pop ≡ choose (g .«pop_vlan») 1 0
+    → record { port = port; vlan = vlan; pop = pop } ≡ outputOf vlan g
+unfolding outputOf
+output-is vlan id port pop g e p q = rw (p, q, ← e)
+
+module _ (d : Registers) (ingress count : ℕ) (heads : List (List ℕ)) (group-vlan vlan size : ℕ) (lows l₀ : List ℕ) where
   -- the outputs that are left after k members
-  abbrev left : ℕ → List Output
-  left k = memberOutputs groups group-vlan vlan (drop k (take count lows))
+  abbrev left : List (List ℕ) → ℕ → List Output
+  left members k = memberOutputs (liveGroups count heads members) group-vlan vlan (drop k (take size lows))
 
   -- k members are done: n outputs are written, and the list is l
   pub record Resolved (k n : ℕ) (l : List ℕ) : Type 0 where
     pub few : n ≤ k
-    pub is : Writing (keep d ingress (left 0)) l₀ (keep d ingress (left k)) n l
+    pub sized : length l ≡ length l₀
+    pub is : (members : List (List ℕ)) → length heads ≡ length members → Writing (keep d ingress (left members 0)) l₀ (keep d ingress (left members k)) n l
 
   pub resolved-none : Resolved 0 0 l₀
-  resolved-none = record { few = omega arith; is = writing-starts (keep d ingress (left 0)) l₀ }
+  resolved-none = record { few = omega arith; sized = refl; is = λ ms e. writing-starts (keep d ingress (left ms 0)) l₀ }
 
-  pub resolved-all : {k n : ℕ} {l : List ℕ} → Resolved k n l → length (take count lows) ≤ k
-      → Lists (keep d ingress (memberOutputs groups group-vlan vlan (take count lows))) n l₀ l
+  pub resolved-all : {k n : ℕ} {l : List ℕ} → Resolved k n l → length (take size lows) ≤ k
+      → Resolves d ingress count heads group-vlan vlan (take size lows) n l₀ l
   unfolding memberOutputs keep
-  resolved-all {k} r h = writing-ends (rw (drop-of-length-le (take count lows) {i = k} h) at (r .is))
+  resolved-all {k} r h = record { is = λ ms e. writing-ends (rw (drop-of-length-le (take size lows) {i = k} h) at (r .is ms e)) }
 
-  module _ {k n id : ℕ} {l : List ℕ} (r : Resolved k n l) (h : k < length (take count lows)) (m : id ≡ memberId group-vlan (getD lows k 0)) where
-    left-more : left k ≡ outputIf vlan (find idOf id groups) (left (k + 1))
+  module _ {k n id at : ℕ} {l : List ℕ} {held : Bool} (r : Resolved k n l) (h : k < length (take size lows))
+      (m : id ≡ memberId group-vlan (getD lows k 0)) (s : Sought count heads id at held) where
+    left-more : (members : List (List ℕ)) → length heads ≡ length members
+        → left members k ≡ outputIf vlan (choose held (some (groupIn (getD heads at [], getD members at []))) none) (left members (k + 1))
     unfolding memberOutputs
-    left-more = rw (m, add-one, drop-cons (take count lows) k 0 h, live-at count k 0 lows h) refl
+    left-more ms e = rw (← found s ms e, m, add-one, drop-cons (take size lows) k 0 h, live-at size k 0 lows h) refl
 
     -- a member that does not exist is skipped
-    pub resolved-gone : find idOf id groups ≡ none → Resolved (k + 1) n l
+    pub resolved-gone : held ≡ false → Resolved (k + 1) n l
     unfolding outputIf
-    resolved-gone f =
-        let e : left k ≡ left (k + 1) = rw f at left-more in
-        record { few = omega (arith, r .few); is = rw e at (r .is) }
+    resolved-gone q =
+        record {
+          few = omega (arith, r .few);
+          sized = r .sized;
+          is = λ ms e. let z : left ms k ≡ left ms (k + 1) = rw q at (left-more ms e) in rw z at (r .is ms e);
+        }
 
     -- one that does is sent, unless it is left out
-    pub resolved-sent : {o : Output} {s : ℕ} {l′ : List ℕ} (g : GroupEntry) → find idOf id groups ≡ some g
-        → o ≡ outputOf vlan g → 3 * n + 2 < length l → Sends d ingress o n s l l′ → Resolved (k + 1) s l′
-    unfolding outputIf
-    resolved-sent {o} g f q b s =
-        let e : left k ≡ o ∷ left (k + 1) = rw (f, ← q) at left-more in
-        let w = writing-sent (left (k + 1)) (rw e at (r .is)) b s in
-        record { few = omega (arith, r .few, w .1); is = w .0 }
+    module _ {port pop n′ : ℕ} {l′ : List ℕ} (q : held ≡ true) (u : port ≡ groupLow id) (v : pop ≡ choose (flagIn (getD (getD heads at []) 1 0)) 1 0)
+        (b : 3 * n + 2 < length l) (w : Sends d ingress (record { port = port; vlan = vlan; pop = pop }) n n′ l l′) where
+      sent : (members : List (List ℕ)) → length heads ≡ length members
+          → Writing (keep d ingress (left members 0)) l₀ (keep d ingress (left members (k + 1))) n′ l′ × (n′ ≤ n + 1)
+      unfolding outputIf groupIn
+      sent ms e =
+          let o = output-is vlan id port pop (groupIn (getD heads at [], getD ms at [])) (s .here q .2) u v in
+          let z : left ms k ≡ record { port = port; vlan = vlan; pop = pop } ∷ left ms (k + 1) = rw (q, ← o) at (left-more ms e) in
+          writing-sent (left ms (k + 1)) (rw z at (r .is ms e)) b w
 
--- the output of a group that was looked up by its ID
-pub output-is : (vlan id port pop : ℕ) (g : GroupEntry) → g .id ≡ id → port ≡ groupLow id → pop ≡ choose (g .«pop_vlan») 1 0
-    → record { port = port; vlan = vlan; pop = pop } ≡ outputOf vlan g
-unfolding outputOf
-output-is vlan id port pop g e p q = rw (p, q, ← e)
+      pub resolved-sent : Resolved (k + 1) n′ l′
+      resolved-sent =
+          let a = sent heads refl in
+          record { few = omega (arith, r .few, a .1); sized = a .0 .sized; is = λ ms e. sent ms e .0 }

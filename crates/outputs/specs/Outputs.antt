@@ -1,18 +1,30 @@
 -- The members that a group stands for, and outputs written into a list.
-use Prim.Native.Nat.{ℕ, _+_, _*_}
+use Prim.Native.Nat.{ℕ, _+_, _*_, _<_}
+use mathlib.Core.Bool.{Bool, true, false}
 use mathlib.Core.Option.{Option, none, some}
 use mathlib.Core.Path.{_≡_}
 use mathlib.Core.List.{List, [], _∷_}
-use lib.ListN.{length, take, set}
+use lib.ListN.{length, take, getD, set}
 use lib.Dec.{ltb, eqb}
 use Rattle.rules.specs.Choose.{choose}
 use Rattle.rules.specs.Keyed.{find}
 use Rattle.rules.specs.GroupId.{groupType, groupLow, hasMembers}
-use Rattle.rules.specs.Tables.{idOf}
-use Rattle.rules.specs.Frame.{Output, isKept, listAfter}
+use Rattle.rules.specs.Rows.{idIn}
+use Rattle.rules.specs.Tables.{idOf, liveGroups}
+use Rattle.rules.specs.Frame.{Output, isKept, keep, memberOutputs, listAfter}
 use Rattle.rules.specs.declared.Registers.{Registers}
 use Rattle.rules.specs.declared.GroupEntry.{GroupEntry}
 use Rattle.outputs.specs.declared.Members.{Members}
+
+-- The heads before a place have lower IDs
+pub record Passed (heads : List (List ℕ)) (id at : ℕ) : Type 0 where
+  pub is : (i : ℕ) → i < at → idIn (getD heads i []) < id
+
+-- A search up the live heads ends at a place: the ID stands there, or none of the heads has it
+pub record Sought (count : ℕ) (heads : List (List ℕ)) (id at : ℕ) (held : Bool) : Type 0 where
+  pub passed : Passed heads id at
+  pub here : held ≡ true → (at < 128) × (at < length (take count heads)) × (idIn (getD heads at []) ≡ id)
+  pub gone : held ≡ false → at < length (take count heads) → id < idIn (getD heads at [])
 
 -- the low bits of the members of a group that was looked up
 unfoldable pub membersFound : Option GroupEntry → List ℕ
@@ -45,3 +57,8 @@ withRoom list os = choose (ltb (length list) 186) [] os
 pub record Lists (os : List Output) (r : ℕ) (before after : List ℕ) : Type 0 where
   pub count : r ≡ length os
   pub list : after ≡ listAfter os before
+
+-- the outputs of the groups of type 0 with a VLAN and low bits: the heads alone tell them, whatever the members are
+pub record Resolves (d : Registers) (ingress count : ℕ) (heads : List (List ℕ)) (group-vlan vlan : ℕ) (lows : List ℕ) (r : ℕ) (before after : List ℕ) : Type 0 where
+  pub is : (members : List (List ℕ)) → length heads ≡ length members
+      → Lists (keep d ingress (memberOutputs (liveGroups count heads members) group-vlan vlan lows)) r before after

@@ -1,5 +1,4 @@
 // A group's outputs (document 01: copies), resolved and written into a list.
-use rules::GroupTable;
 use rules::Registers;
 ghost use Prim.Native.Nat.{_+_, _*_, _<_, _≤_};
 ghost use mathlib.Core.Path.{_≡_};
@@ -12,13 +11,19 @@ ghost use Rattle.rules.specs.GroupId.{memberId};
 ghost use Rattle.rules.specs.Keyed.{find};
 ghost use Rattle.rules.specs.Registers.{isUp};
 ghost use Rattle.rules.specs.Tables.{liveGroups, idOf};
-ghost use Rattle.rules.specs.Frame.{keep, memberOutputs, foundOutputs};
-ghost use Rattle.outputs.specs.Outputs.{membersFound, membersOf, lowsIn, withOutput, withRoom, Sends, Lists};
+ghost use Rattle.rules.specs.Frame.{keep, foundOutputs};
+ghost use Rattle.outputs.specs.Outputs.{Passed, Sought, membersFound, membersOf, lowsIn, withOutput, withRoom, Sends, Lists, Resolves};
 
 // The low 16 bits of some groups of type 0, in order.
 pub struct Members {
     pub count: usize,
     pub lows: [u16; 62],
+}
+
+// Where the search for an ID ended, and whether the ID stands there.
+struct Place {
+    at: usize,
+    held: bool,
 }
 
 // ---- Group IDs
@@ -87,24 +92,39 @@ fn no_members() -> Members
     }
 }
 
-fn members_in(groups: GroupTable, id: u32) -> Members
-    ensures { λ r. ⌜ lowsIn r ≡ membersFound (find idOf id (liveGroups groups)) ⌝ }
+// The first live head from a place on whose ID is not lower. What stands before that place has to be lower.
+fn seek(heads: &[[u32; 3]; 128], count: usize, id: u32, from: usize) -> Place
+    requires { ⌜ Passed (now heads) id from ⌝ }
+    ensures { λ r. ⌜ Sought count (now (heads .entry)) id (r .at) (r .held) ⌝ }
 {
-    let n = wire::least(groups.count, 128);
-    let mut i: usize = 0;
-    while i < n {
-        let g = groups.entries[i];
-        if id <= g.id {
-            if id == g.id {
-                let lows = g.members;
-                return Members {
-                    count: g.member_count as usize,
-                    lows,
-                };
-            }
-            return no_members();
+    let all = &heads[..];
+    let n = wire::least(count, all.len());
+    let mut at = from;
+    while at < n {
+        let k = heads[at][0];
+        if id <= k {
+            return Place { at, held: k == id };
         }
-        i += 1;
+        at += 1;
+    }
+    Place { at, held: false }
+}
+
+// Both arrays are lent as slices, which tells that they are as long as each other.
+fn members_in(heads: &[[u32; 3]; 128], members: &[[u16; 62]; 128], count: usize, id: u32) -> Members
+    ensures { λ r. ⌜ lowsIn r ≡ membersFound (find idOf id (liveGroups count (now (heads .entry)) (now (members .entry)))) ⌝ }
+{
+    let all = &heads[..];
+    let lows = &members[..];
+    let p = seek(heads, count, id, 0);
+    if p.held {
+        let at = p.at;
+        let g = rows::group_of(heads[at], members[at]);
+        let found = g.members;
+        return Members {
+            count: g.member_count as usize,
+            lows: found,
+        };
     }
     no_members()
 }
@@ -118,15 +138,15 @@ fn itself(low: u16) -> Members
 }
 
 // A group of type 0 stands for itself, so that one loop resolves every group.
-fn members_of(groups: GroupTable, id: u32) -> Members
-    ensures { λ r. ⌜ lowsIn r ≡ membersOf (liveGroups groups) id ⌝ }
+fn members_of(heads: &[[u32; 3]; 128], members: &[[u16; 62]; 128], count: usize, id: u32) -> Members
+    ensures { λ r. ⌜ lowsIn r ≡ membersOf (liveGroups count (now (heads .entry)) (now (members .entry))) id ⌝ }
 {
     let kind = group_id::type_of(id);
     if kind == 0 {
         return itself(group_id::low_of(id));
     }
     if group_id::has_members(kind) {
-        return members_in(groups, id);
+        return members_in(heads, members, count, id);
     }
     no_members()
 }
@@ -139,10 +159,11 @@ fn from(id: u32, last: u32, j: usize) -> usize
     if id < last { 0 } else { j }
 }
 
-// Writes the outputs of the members that exist, in order.
+// Writes the outputs of the members that exist, in order. Each search goes on where the last one ended.
 fn resolve(
     d: Registers,
-    groups: GroupTable,
+    heads: &[[u32; 3]; 128],
+    count: usize,
     ingress: u64,
     vlan: u16,
     group_vlan: u16,
@@ -150,32 +171,22 @@ fn resolve(
     list: &mut [u16],
 ) -> usize
     requires { ⌜ («group_vlan» < 4096) × (186 ≤ length (now list)) ⌝ }
-    ensures { λ r. ⌜ Lists (keep d ingress (memberOutputs (liveGroups groups) «group_vlan» vlan (lowsIn m))) r (now (list .entry)) (now (list .exit)) ⌝ }
+    ensures { λ r. ⌜ Resolves d ingress count (now (heads .entry)) «group_vlan» vlan (lowsIn m) r (now (list .entry)) (now (list .exit)) ⌝ }
 {
-    let n = wire::least(groups.count, 128);
     let size = wire::least(m.count, 62);
     let mut k: usize = 0;
     let mut out: usize = 0;
-    let mut j: usize = 0;
+    let mut at: usize = 0;
     let mut last: u32 = 0;
     while k < size {
         let id = member_id(group_vlan, m.lows[k]);
         k += 1;
-        j = from(id, last, j);
+        let p = seek(heads, count, id, from(id, last, at));
+        at = p.at;
         last = id;
-        while j < n {
-            let g = groups.entries[j];
-            if id <= g.id {
-                break;
-            }
-            j += 1;
-        }
-        if j < n {
-            let g = groups.entries[j];
-            if g.id == id {
-                let pop = number(g.pop_vlan);
-                out = send(d, ingress, group_id::low_of(id), vlan, pop, out, list);
-            }
+        if p.held {
+            let pop = number(rows::flag(heads[at][1]));
+            out = send(d, ingress, group_id::low_of(id), vlan, pop, out, list);
         }
     }
     out
@@ -185,17 +196,30 @@ fn resolve(
 // has none.
 pub fn group_outputs(
     d: Registers,
-    groups: GroupTable,
+    heads: &[[u32; 3]; 128],
+    members: &[[u16; 62]; 128],
+    count: usize,
     ingress: u64,
     vlan: u16,
     id: u32,
     list: &mut [u16],
 ) -> usize
-    ensures { λ r. ⌜ Lists (withRoom (now (list .entry)) (keep d ingress (foundOutputs (liveGroups groups) vlan (find idOf id (liveGroups groups))))) r (now (list .entry)) (now (list .exit)) ⌝ }
+    ensures { λ r. ⌜ Lists (withRoom (now (list .entry)) (keep d ingress (foundOutputs (liveGroups count (now (heads .entry)) (now (members .entry))) vlan (find idOf id (liveGroups count (now (heads .entry)) (now (members .entry))))))) r (now (list .entry)) (now (list .exit)) ⌝ }
 {
+    let all = &heads[..];
+    let lows = &members[..];
     if list.len() < 186 {
         return 0;
     }
-    let m = members_of(groups, id);
-    resolve(d, groups, ingress, vlan, group_id::vlan_of(id), m, list)
+    let m = members_of(heads, members, count, id);
+    resolve(
+        d,
+        heads,
+        count,
+        ingress,
+        vlan,
+        group_id::vlan_of(id),
+        m,
+        list,
+    )
 }

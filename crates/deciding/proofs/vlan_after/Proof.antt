@@ -1,14 +1,12 @@
-use Rattle.deciding.specs.Way.{vlanAfter}
+use borrow.Author.Tests.{eq-eqb, ne-eqb}
 use Rattle.deciding.proofs.vlan_after.Statement.{statement}
 use Rattle.deciding.proofs.vlan_after.Tie as tie
 
 returns : tie.Need-returns
-unfolding vlanAfter
-returns c = simp (c .if1 .taken)
+returns c = simp (eq-eqb _ _ (c .if1 .taken))
 
 returns-2 : tie.Need-returns-2
-unfolding vlanAfter
-returns-2 c = simp (c .if1 .left)
+returns-2 c = simp (ne-eqb _ _ (c .if1 .left))
 
 pub vlan-after-spec : {M : Type 1} → statement M
 vlan-after-spec = tie.close (tie.spec returns returns-2)

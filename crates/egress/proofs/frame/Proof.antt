@@ -1,4 +1,5 @@
 use mathlib.Core.Path.{sym, _∙_}
+use Rattle.rules.specs.Tables.{tablesOf}
 use borrow.Author.Tests.{not-true, not-false}
 use Rattle.registers.proofs.Bitmaps.{port-small}
 use Rattle.egress.proofs.Outcomes.{port-refused, frame-refused, list-refused, port-down, port-up}
@@ -77,6 +78,7 @@ same-length : tie.Need-same-length
 same-length c = search needs
 
 returns-5 : tie.Need-returns-5
+unfolding tablesOf
 returns-5 c =
     let u = c .before .before .before .before .before .before in
     let f = u .before .before .before in

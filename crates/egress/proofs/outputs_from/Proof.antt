@@ -28,10 +28,12 @@ unfolding frameMac
 returns c =
     let w = c .before .before .before .before .before in
     let a = w .before .before .before .before .before .args in
-    let e = w .way .ensures ∙ way-whole (liveFlows (a .flows)) (a .port) (w .before .le48 .result) (w .before .before .frame-vlan .result) (a .f .now)
+    let flows = liveFlows (a .counts .flows) (a .flows .now) in
+    let groups = liveGroups (a .counts .groups) (a .heads .now) (a .members .now) in
+    let e = w .way .ensures ∙ way-whole flows (a .port) (w .before .le48 .result) (w .before .before .frame-vlan .result) (a .f .now)
     (w .before .le48 .ensures) (w .before .before .frame-vlan .ensures) in
     rw
-    (out-found (liveGroups (a .groups)) (w .way .result) (way (liveFlows (a .flows)) (a .port) (a .f .now)) e (c .before .before .before .before .if1 .taken))
+    (out-found groups (w .way .result) (way flows (a .port) (a .f .now)) e (c .before .before .before .before .if1 .taken))
     (rw (room _ (a .list .now) (search needs)) at (c .before .before .group-outputs .ensures))
 
 returns-2 : tie.Need-returns-2
@@ -39,9 +41,11 @@ unfolding frameMac keep
 returns-2 c =
     let w = c .before in
     let a = w .before .before .before .before .before .args in
-    let e = w .way .ensures ∙ way-whole (liveFlows (a .flows)) (a .port) (w .before .le48 .result) (w .before .before .frame-vlan .result) (a .f .now)
+    let flows = liveFlows (a .counts .flows) (a .flows .now) in
+    let groups = liveGroups (a .counts .groups) (a .heads .now) (a .members .now) in
+    let e = w .way .ensures ∙ way-whole flows (a .port) (w .before .le48 .result) (w .before .before .frame-vlan .result) (a .f .now)
     (w .before .le48 .ensures) (w .before .before .frame-vlan .ensures) in
-    rw (out-none (liveGroups (a .groups)) (w .way .result) (way (liveFlows (a .flows)) (a .port) (a .f .now)) e (c .if1 .left)) (lists-none (a .list .now))
+    rw (out-none groups (w .way .result) (way flows (a .port) (a .f .now)) e (c .if1 .left)) (lists-none (a .list .now))
 
 pub outputs-from-spec : {M : Type 1} → statement M
 outputs-from-spec =

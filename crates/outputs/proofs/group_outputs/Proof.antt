@@ -6,13 +6,9 @@ use native.Mathlib.Omega.{arith}
 use borrow.Author.Needs.{needs}
 use Rattle.outputs.proofs.group_outputs.Statement.{statement}
 use Rattle.outputs.proofs.group_outputs.Tie as tie
-use Rattle.outputs.proofs.group_outputs.Reads as reads
-use Rattle.outputs.proofs.group_outputs.Lts as lts
-use Rattle.outputs.proofs.members_of.Reads as members-of-reads
-use Rattle.outputs.proofs.resolve.Reads as resolve-reads
 
 returns : tie.Need-returns
-returns c = no-room _ (c .before .before .args .list .now) (c .if1 .taken)
+returns c = no-room _ (c .before .before .before .before .args .list .now) (c .if1 .taken)
 
 members-of-requires : tie.Need-members-of-requires
 members-of-requires c κs = search needs
@@ -29,10 +25,12 @@ same-length c = search needs
 returns-2 : tie.Need-returns-2
 returns-2 c =
     let v = c .before .before .before .before in
-    let a = v .before .before .before .before .args in
+    let t = v .before .before in
+    let l = t .before in
+    let a = l .before .before .before .args in
     rw
-    (room _ (a .list .now) (v .before .before .if1 .left), group-outputs (liveGroups (a .groups)) (a .vlan) (a .id), ← v .before .members-of .ensures, ← v .vlan-of .ensures)
-    (c .before .before .resolve .ensures)
+    (room _ (a .list .now) (t .if1 .left), group-outputs (liveGroups (a .count) (a .heads .now) (a .members .now)) (a .vlan) (a .id), ← v .before .members-of .ensures, ← v .vlan-of .ensures)
+    (c .before .before .resolve .ensures .is (a .members .now) (omega (arith, l .before .all .given, l .lows .given)))
 
 pub group-outputs-spec : {M : Type 1} → statement M
 group-outputs-spec =

@@ -20,7 +20,7 @@ returns : tie.Need-returns
 returns c =
     let k = c .before .before .before in
     rw
-    (members-self (liveGroups (k .before .args .groups)) (k .before .args .id) (sym (k .type-of .ensures) ∙ c .before .before .if1 .taken), ← c .before .low-of .ensures)
+    (members-self (liveGroups (k .before .args .count) (k .before .args .heads .now) (k .before .args .members .now)) (k .before .args .id) (sym (k .type-of .ensures) ∙ c .before .before .if1 .taken), ← c .before .low-of .ensures)
     (c .itself .ensures)
 
 has-members-requires : tie.Need-has-members-requires
@@ -34,7 +34,7 @@ returns-2 c =
     let k = c .before .before .before .before in
     let other : groupType (k .before .args .id) ≡ 0 → ⊥ = λ e. c .before .before .before .if1 .left (k .type-of .ensures ∙ e) in
     let kind : hasMembers (groupType (k .before .args .id)) ≡ true = rw (← k .type-of .ensures) (sym (c .before .before .has-members .ensures) ∙ c .before .if2 .taken) in
-    rw (members-found (liveGroups (k .before .args .groups)) (k .before .args .id) other kind) (c .members-in .ensures)
+    rw (members-found (liveGroups (k .before .args .count) (k .before .args .heads .now) (k .before .args .members .now)) (k .before .args .id) other kind) (c .members-in .ensures)
 
 no-members-requires : tie.Need-no-members-requires
 no-members-requires c κs = search needs
@@ -44,7 +44,7 @@ returns-3 c =
     let k = c .before .before .before .before in
     let other : groupType (k .before .args .id) ≡ 0 → ⊥ = λ e. c .before .before .before .if1 .left (k .type-of .ensures ∙ e) in
     let kind : hasMembers (groupType (k .before .args .id)) ≡ false = rw (← k .type-of .ensures) (sym (c .before .before .has-members .ensures) ∙ c .before .if2 .left) in
-    rw (members-none (liveGroups (k .before .args .groups)) (k .before .args .id) other kind) (c .no-members .ensures)
+    rw (members-none (liveGroups (k .before .args .count) (k .before .args .heads .now) (k .before .args .members .now)) (k .before .args .id) other kind) (c .no-members .ensures)
 
 pub members-of-spec : {M : Type 1} → statement M
 members-of-spec =

@@ -1,0 +1,88 @@
+use mathlib.Core.Path.{ap, _∙_}
+use Rattle.rules.specs.declared.FlowEntry.{FlowEntry}
+use Rattle.deciding.specs.Way.{Scanned}
+use Rattle.deciding.proofs.Scan.{other-table, better-passed, scan-starts, scan-on, scan-ends}
+use borrow.Author.Needs.{needs}
+use native.Mathlib.Omega.{arith}
+use Rattle.deciding.proofs.first_hits.Statement.{statement}
+use Rattle.deciding.proofs.first_hits.Tie as tie
+
+abbrev Inv-loop : tie.InvT-loop
+Inv-loop rows count port vlan i₀ first₀ second₀ i first second =
+    Scanned count rows 0 port vlan 0 i (first .found) (first .at) × Scanned count rows 10 port vlan 0 i (second .found) (second .at)
+
+abbrev μ-loop : tie.MeasureT-loop
+μ-loop rows count port vlan i₀ first₀ second₀ i first second = i
+
+least-requires : tie.Need-least-requires Inv-loop μ-loop
+least-requires c κs = search needs
+
+none-requires : tie.Need-none-requires Inv-loop μ-loop
+none-requires c κs = search needs
+
+none-requires-2 : tie.Need-none-requires-2 Inv-loop μ-loop
+none-requires-2 c κs = search needs
+
+loop-holds : tie.Need-loop-holds Inv-loop μ-loop
+loop-holds c =
+    let n = c .before .before in
+    let g = n .before .all .given in
+    let l = n .least .ensures in
+    (scan-starts (omega (arith, g)) (omega (arith, l, g)) (c .before .none .ensures), scan-starts (omega (arith, g)) (omega (arith, l, g)) (c .none2 .ensures))
+
+sub-i : tie.Need-sub-i Inv-loop μ-loop
+sub-i c = search needs
+
+flow-requires : tie.Need-flow-requires Inv-loop μ-loop
+flow-requires c κs = search needs
+
+better-requires : tie.Need-better-requires Inv-loop μ-loop
+better-requires c κs = search needs
+
+better-requires-2 : tie.Need-better-requires-2 Inv-loop μ-loop
+better-requires-2 c κs = search needs
+
+loop-less : tie.Need-loop-less Inv-loop μ-loop
+loop-less c = search needs
+
+loop-again : tie.Need-loop-again Inv-loop μ-loop
+loop-again c =
+    let b = c .before in
+    let l = b .before .before .before .before .before .loop .inv in
+    (scan-on (l .0) (omega arith) (b .better .ensures), scan-on (l .1) (omega arith) (c .better2 .ensures))
+
+loop-less-2 : tie.Need-loop-less-2 Inv-loop μ-loop
+loop-less-2 c = search needs
+
+loop-again-2 : tie.Need-loop-again-2 Inv-loop μ-loop
+loop-again-2 c =
+    let l = c .before .before .before .before .loop .inv in
+    let t = ap (λ (f : FlowEntry). f .table) (c .before .before .flow .ensures) in (
+      scan-on (l .0) (omega arith) (better-passed (l .0 .inside) (other-table _ 0 _ _ _ (λ q. omega (arith, t ∙ q, c .if1 .left)))),
+      scan-on (l .1) (omega arith) (better-passed (l .1 .inside) (other-table _ 10 _ _ _ (λ q. omega (arith, t ∙ q, c .if1 .left)))),
+    )
+
+returns : tie.Need-returns Inv-loop μ-loop
+returns c =
+    let l = c .before .loop .inv in
+    (scan-ends (l .0) (omega arith), scan-ends (l .1) (omega arith))
+
+pub first-hits-spec : {M : Type 1} → statement M
+first-hits-spec =
+    tie.close
+    (tie.spec
+    Inv-loop
+    μ-loop
+    least-requires
+    none-requires
+    none-requires-2
+    loop-holds
+    sub-i
+    flow-requires
+    better-requires
+    better-requires-2
+    loop-less
+    loop-again
+    loop-less-2
+    loop-again-2
+    returns)

@@ -1,0 +1,63 @@
+use Rattle.deciding.specs.Way.{Scanned}
+use Rattle.deciding.proofs.Scan.{scan-starts, scan-on, scan-ends}
+use borrow.Author.Needs.{needs}
+use native.Mathlib.Omega.{arith}
+use Rattle.deciding.proofs.last_hit.Statement.{statement}
+use Rattle.deciding.proofs.last_hit.Tie as tie
+
+abbrev Inv-loop : tie.InvT-loop
+Inv-loop rows count vlan mac i₀ hit₀ i hit =
+    Scanned count rows 50 0 vlan mac i (hit .found) (hit .at)
+
+abbrev μ-loop : tie.MeasureT-loop
+μ-loop rows count vlan mac i₀ hit₀ i hit = i
+
+least-requires : tie.Need-least-requires Inv-loop μ-loop
+least-requires c κs = search needs
+
+none-requires : tie.Need-none-requires Inv-loop μ-loop
+none-requires c κs = search needs
+
+loop-holds : tie.Need-loop-holds Inv-loop μ-loop
+loop-holds c =
+    let n = c .before in
+    let g = n .before .all .given in
+    scan-starts (omega (arith, g)) (omega (arith, n .least .ensures, g)) (c .none .ensures)
+
+skip-requires : tie.Need-skip-requires Inv-loop μ-loop
+skip-requires c κs = search needs
+
+returns : tie.Need-returns Inv-loop μ-loop
+returns c = scan-ends (c .before .skip .ensures .is _ _ _ (c .before .before .loop .inv)) (omega arith)
+
+sub-i : tie.Need-sub-i Inv-loop μ-loop
+sub-i c = search needs
+
+better-requires : tie.Need-better-requires Inv-loop μ-loop
+better-requires c κs =
+    let s = c .before .skip .ensures .is _ _ _ (c .before .before .loop .inv) in
+    (omega (arith, s .few), s .inside)
+
+loop-less : tie.Need-loop-less Inv-loop μ-loop
+loop-less c = omega (arith, c .before .before .skip .ensures .down)
+
+loop-again : tie.Need-loop-again Inv-loop μ-loop
+loop-again c =
+    let k = c .before .before in
+    scan-on (k .skip .ensures .is _ _ _ (k .before .loop .inv)) (omega arith) (c .better .ensures)
+
+pub last-hit-spec : {M : Type 1} → statement M
+last-hit-spec =
+    tie.close
+    (tie.spec
+    Inv-loop
+    μ-loop
+    least-requires
+    none-requires
+    loop-holds
+    skip-requires
+    returns
+    sub-i
+    better-requires
+    loop-less
+    loop-again)
