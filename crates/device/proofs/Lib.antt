@@ -1,4 +1,4 @@
+-- What the ends of each call come to, on plain values.
 pub mod Outcome
-pub mod Fetching
-pub mod Completion
+pub mod Framing
 pub mod Processing

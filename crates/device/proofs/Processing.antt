@@ -1,174 +1,134 @@
 -- The ends of a process call, on plain values.
 -- Assumes nothing.
-use Prim.Native.Nat.{ℕ, _+_, _≤_, _<_}
-use mathlib.Core.Bool.{Bool, true, false, not}
+use Prim.Native.Nat.{ℕ, _+_, _≤_}
+use mathlib.Core.Bool.{Bool, true, false}
 use mathlib.Core.Path.{_≡_, refl, sym, ap, _∙_}
-use mathlib.Core.List.{List, []}
+use mathlib.Core.List.{List}
 use native.Mathlib.Omega.{arith}
-use lib.ListN.{length, take, drop, length-take, length-drop}
-use lib.Dec.{ltb, leb, eqb}
-use borrow.Author.Tests.{eq-eqb, ne-eqb, lt-ltb, le-ltb, le-leb, lt-leb}
+use lib.ListN.{length}
+use lib.Dec.{ltb, eqb}
+use borrow.Author.Tests.{lt-ltb, eq-eqb, eqb-true}
 use Rattle.rules.specs.Choose.{choose}
 use Rattle.rules.specs.Answers.{number, code}
-use Rattle.rules.specs.Bytes.{inside, part, bytesOf, splice}
-use Rattle.rules.specs.Descriptor.{Fetched, descriptorAt, descriptor, completionAt, fetch}
-use Rattle.rules.specs.Tables.{Tables, tablesOf}
-use Rattle.rules.specs.Journal.{recordOf, completion}
-use Rattle.rules.specs.Switch.{Switch, Borrowed, Carried, switchOf, carry, carriedSlot, slotRecord, processRefusal, processEffect, refusal, effect, step}
-use Rattle.rules.specs.declared.Answer.{Answer}
-use Rattle.rules.specs.declared.Ring.{Ring}
-use Rattle.rules.specs.declared.Answer.the-variants.{Done, RingEmpty, CreditsFull, DescriptorOutside, BufferShort}
+use Rattle.rules.specs.Ring.{completeEffect, completeInterrupt}
+use Rattle.rules.specs.Registers.{withRing}
+use Rattle.rules.specs.Journal.{completion}
+use Rattle.rules.specs.Tables.{Arrays, tablesOf, carryOut}
+use Rattle.rules.specs.Switch.{Borrowed, switchOf, processEffect, refusal, effect, step}
+use Rattle.rules.specs.declared.Answer.the-variants.{Done}
+use Rattle.rules.specs.declared.Counts.{Counts}
+use Rattle.rules.specs.declared.Decoding.{Decoding}
 use Rattle.rules.specs.declared.Device.{Device}
-use Rattle.rules.specs.declared.Descriptor.{Descriptor}
 use Rattle.rules.specs.declared.Request.the-variants.{Process}
-use Rattle.rules.proofs.Cases.{by-test, not-both}
-use Rattle.rules.proofs.Journal.{length-record}
+use Rattle.rules.specs.declared.Ring.{Ring}
+use Rattle.rules.specs.declared.Status.the-variants.{Ok}
+use Rattle.rules.proofs.Bytes.{splice-no-shorter}
+use Rattle.rules.proofs.Cases.{not-both}
+use Rattle.execute.specs.Outcome.{Executes}
+use Rattle.execute.specs.declared.Executed.{Executed}
+use Rattle.slot.specs.Fetching.{payloadOf}
+use Rattle.slot.specs.Taking.{Takes}
+use Rattle.slot.specs.Completing.{Prepares, Finishes}
+use Rattle.slot.specs.declared.Slot.{Slot}
+use Rattle.slot.specs.declared.Taken.{Taken}
+use Rattle.slot.proofs.Completing.{Completes, completes}
 use Rattle.device.specs.Outcome.{Outcome, borrowed, quiet}
-use Rattle.device.specs.Fetching.{handed, Fetches, carriedBy}
-use Rattle.device.specs.Completion.{Ready, Takes}
-use Rattle.device.proofs.Completion.{Completes}
 use Rattle.device.specs.declared.Called.{Called}
-use Rattle.device.specs.declared.slot.Slot.{Slot}
-use Rattle.device.specs.declared.slot.Taken.{Taken}
 use Rattle.device.proofs.Outcome.{outcome-refused, outcome-done}
 
--- what is recorded is the part of memory that the slot names: of a fault, nothing
-payload-is : (ports : ℕ) (t : Tables) (memory : List ℕ) (d : Descriptor) (s : Slot) → Fetches s memory d
-    → carry ports t (handed (s .status) (part (s .size) memory (s .start))) .payload ≡ part (s .size) memory (s .start)
-unfolding handed carry part
-payload-is ports t memory d s f =
-    by-test (eqb (code (s .status)) 0) (λ p. rw p) (λ p. let z : s .size ≡ 0 = f .empty p in rw (p, z))
+-- the result of completing a slot
+unfoldable pub result : Device → Counts → Slot → ℕ → Bool → Ring → Called
+result d counts x completed raised next =
+    record {
+      answer = Done;
+      value = 0;
+      interrupt = raised;
+      completed = completed;
+      length = 6 + x .size;
+      outputs = 0;
+      device = record {
+        registers = record {
+          «switch_id» = d .registers .«switch_id»;
+          links = d .registers .links;
+          enable = d .registers .enable;
+          «test_reg64» = d .registers .«test_reg64»;
+          ports = d .registers .ports;
+          «enable_latch» = d .registers .«enable_latch»;
+          «test_latch» = d .registers .«test_latch»;
+          «test_reg» = d .registers .«test_reg»;
+          ring = next;
+        };
+        counts = counts;
+      };
+    }
 
-size-is : (memory : List ℕ) (d : Descriptor) (s : Slot) → Fetches s memory d → length (part (s .size) memory (s .start)) ≡ s .size
-unfolding part
-size-is memory d s f = omega (arith, length-take (s .size) (drop (s .start) memory), length-drop (s .start) memory, f .fits)
+-- the copy of the payload leaves the buffer's length
+pub still-fits : {q : Decoding} {x : Slot} {ports n : ℕ} {memory buffer between : List ℕ} → Prepares q x ports memory buffer between
+    → n ≤ length buffer → n ≤ length between
+still-fits {x = x} {memory = memory} {buffer = buffer} p h = omega (arith, ap length (p .copied), splice-no-shorter 6 (payloadOf x memory) buffer)
 
-module _ (d : Device) (memory frame buffer list : List ℕ) where
+module _ (d : Device) (a : Arrays) (memory frame buffer list : List ℕ) where
   abbrev here : Borrowed
   here = borrowed memory frame buffer list
 
-  -- a refusal, by its number
-  refused-with : (a : _) → number a ≡ processRefusal (switchOf d) here → (processRefusal (switchOf d) here ≡ 0 → ⊥)
-      → Outcome (quiet d a) d memory buffer list (step (switchOf d) here Process)
-  unfolding borrowed refusal
-  refused-with a e n = outcome-refused d here Process a e n
+  module _ (r : Taken) (t : Takes r (d .registers .ring) memory (length buffer)) where
+    refusal-is : number (r .answer) ≡ refusal (switchOf d a) here Process
+    unfolding refusal switchOf borrowed
+    refusal-is = t .answer-is (switchOf d a) here refl refl refl
 
-  pub ring-empty : d .registers .ring .head ≡ d .registers .ring .tail → Outcome (quiet d RingEmpty) d memory buffer list (step (switchOf d) here Process)
-  unfolding processRefusal switchOf number
-  ring-empty h =
-      let e : processRefusal (switchOf d) here ≡ 3 = rw (eq-eqb _ _ h) in
-      refused-with RingEmpty (sym e) (λ z. absurd (let y : _≡_ {A = ℕ} 3 0 = sym e ∙ z in omega arith))
+    pub process-refused : r .ready ≡ false → Outcome (quiet d (r .answer)) d a a memory buffer list (step (switchOf d a) here Process)
+    unfolding borrowed
+    process-refused n =
+        outcome-refused d a here Process (r .answer) refusal-is
+        (λ z. not-both (sym (t .ready-is ∙ eq-eqb _ _ (refusal-is ∙ z)) ∙ n))
 
-  module _ (busy : d .registers .ring .head ≡ d .registers .ring .tail → ⊥) where
-    pub credits-full : 65536 ≤ d .registers .ring .credits → Outcome (quiet d CreditsFull) d memory buffer list (step (switchOf d) here Process)
-    unfolding processRefusal switchOf number
-    credits-full h =
-        let e : processRefusal (switchOf d) here ≡ 4 = rw (ne-eqb _ _ busy, le-leb _ _ h) in
-        refused-with CreditsFull (sym e) (λ z. absurd (let y : _≡_ {A = ℕ} 4 0 = sym e ∙ z in omega arith))
+    module _ (ready : r .ready ≡ true) (q : Decoding) (x : Executed) (a′ : Arrays) (completed : ℕ) (between memory′ buffer′ : List ℕ)
+        (raised : Bool) (next : Ring)
+        (p : Prepares q (r .slot) (d .registers .ports) memory buffer between)
+        (e : Executes x (d .counts) a a′ (carryOut (tablesOf (d .counts) a) q))
+        (f : Finishes completed (r .at) (r .slot .size) (x .status) (d .registers .ring .tail) memory memory′ between buffer′)
+        (i : raised ≡ completeInterrupt (d .registers .ring))
+        (n : next ≡ choose (ltb (d .registers .ring .credits) 65536) (completeEffect (d .registers .ring)) (d .registers .ring)) where
+      done : Completes (switchOf d a) here q (r .slot .size) completed memory′ buffer′
+      unfolding switchOf borrowed
+      done = completes (switchOf d a) here (r .slot) (r .at) (t .taken ready) q (x .status) completed between memory′ buffer′ p (e .status-is) f
 
-    module _ (credit : d .registers .ring .credits < 65536) where
-      pub descriptor-outside : inside (descriptorAt (d .registers .ring)) 32 memory ≡ false
-          → Outcome (quiet d DescriptorOutside) d memory buffer list (step (switchOf d) here Process)
-      unfolding processRefusal switchOf number borrowed
-      descriptor-outside h =
-          let e : processRefusal (switchOf d) here ≡ 5 = rw (ne-eqb _ _ busy, lt-leb _ _ credit, h) in
-          refused-with DescriptorOutside (sym e) (λ z. absurd (let y : _≡_ {A = ℕ} 5 0 = sym e ∙ z in omega arith))
+      moved : next ≡ completeEffect (d .registers .ring)
+      moved = n ∙ rw (lt-ltb _ _ (t .taken ready .uncredited))
 
-      module _ (within : inside (descriptorAt (d .registers .ring)) 32 memory ≡ true) (at : ℕ) (stands : at ≡ descriptorAt (d .registers .ring))
-          (x : Descriptor) (reads : x ≡ descriptor memory at) (s : Slot) (f : Fetches s memory x) where
-        carried-is : carriedSlot (switchOf d) memory ≡ carriedBy s (d .registers) (d .flows) (d .groups) memory
-        unfolding carriedSlot carriedBy switchOf
-        carried-is = rw (← stands, ← reads, f .fetched)
+      -- a status that is OK completes as 0x8000
+      ok-completes : carryOut (tablesOf (d .counts) a) q .status ≡ Ok → processEffect (switchOf d a) here .completed ≡ 0x8000
+      unfolding completion code
+      ok-completes o = sym (done .completed-is) ∙ (f .completed-is ∙ rw (e .status-is ∙ o))
 
-        record-is : slotRecord (switchOf d) memory
-            ≡ recordOf (carriedBy s (d .registers) (d .flows) (d .groups) memory .status) (part (s .size) memory (s .start)) (d .registers .ring .tail)
-        unfolding slotRecord switchOf
-        record-is =
-            rw carried-is
-            (unfold carriedBy in rw (payload-is (d .registers .ports) (tablesOf (d .flows) (d .groups)) memory x s f))
+      registers-are : result d (x .counts) (r .slot) completed raised next .device .registers ≡ processEffect (switchOf d a) here .switch .registers
+      unfolding result processEffect withRing switchOf
+      registers-are = rw moved
 
-        record-length : length (slotRecord (switchOf d) memory) ≡ 6 + s .size
-        record-length = rw (record-is, length-record) (omega (arith, size-is memory x s f))
+      tables-are : tablesOf (x .counts) a′ ≡ processEffect (switchOf d a) here .switch .tables
+      unfolding switchOf
+      tables-are = e .tables-are ∙ done .tables-are
 
-        pub buffer-short : length buffer < 6 + s .size → Outcome (quiet d BufferShort) d memory buffer list (step (switchOf d) here Process)
-        unfolding processRefusal number borrowed
-        buffer-short h =
-            let e : processRefusal (switchOf d) here ≡ 6 =
-            unfold switchOf in rw (ne-eqb _ _ busy, lt-leb _ _ credit, within, record-length, lt-ltb _ _ h) in
-            refused-with BufferShort (sym e) (λ z. absurd (let y : _≡_ {A = ℕ} 6 0 = sym e ∙ z in omega arith))
+      effect-is : Outcome (result d (x .counts) (r .slot) completed raised next) d a a′ memory′ buffer′ list (effect (switchOf d a) here Process)
+      unfolding effect result number switchOf
+      effect-is =
+          record {
+            answer-is = unfold processEffect in refl;
+            value-is = unfold processEffect in refl;
+            interrupt-is = unfold processEffect switchOf in i;
+            completed-is = done .completed-is;
+            length-is = done .length-is;
+            outputs-are = unfold processEffect in refl;
+            memory-is = done .memory-is;
+            buffer-is = done .buffer-is;
+            list-is = unfold processEffect borrowed in refl;
+            switch-is = λ j. record { registers = registers-are j; tables = tables-are j };
+            device-kept = λ z. absurd (z (unfold processEffect in refl));
+            places-kept = λ z. e .kept (λ o. z (ok-completes o)) .1;
+          }
 
-        completion-is : completionAt (switchOf d .registers .ring) ≡ at + 30
-        unfolding completionAt switchOf
-        completion-is = rw stands
-
-        effect-is : (r : Called) (memory′ buffer′ : List ℕ) → Completes r d s at memory memory′ buffer buffer′
-            → Outcome r d memory′ buffer′ list (effect (switchOf d) here Process)
-        unfolding effect processEffect borrowed
-        effect-is r memory′ buffer′ c =
-            record {
-              answer-is = rw (c .answer-is) (unfold number in refl);
-              value-is = c .value-is;
-              interrupt-is = unfold switchOf in c .interrupt-is;
-              completed-is = rw carried-is (c .completed-is);
-              length-is = rw record-length (c .length-is);
-              outputs-are = c .outputs-are;
-              memory-is = rw (carried-is, completion-is) (c .memory-is);
-              buffer-is = rw record-is (c .buffer-is);
-              list-is = refl;
-              switch-is = rw carried-is (unfold switchOf in rw (c .registers-are, c .tables-are));
-              kept = λ n. absurd (n refl);
-            }
-
-        pub processed : (r : Called) (memory′ buffer′ : List ℕ) → 6 + s .size ≤ length buffer → Completes r d s at memory memory′ buffer buffer′
-            → Outcome r d memory′ buffer′ list (step (switchOf d) here Process)
-        processed r memory′ buffer′ h c =
-            outcome-done d here Process r memory′ buffer′ list
-            (unfold refusal processRefusal switchOf borrowed in rw (ne-eqb _ _ busy, lt-leb _ _ credit, within, record-length, le-ltb _ _ h))
-            (effect-is r memory′ buffer′ c)
-
--- ---- The same, as `slot::take` says it: of every device with this ring
-
-module _ (ring : Ring) (memory : List ℕ) (bytes : ℕ) where
-  abbrev Refuses : Answer → Type 0
-  Refuses a = (d : Device) (frame buffer list : List ℕ) → d .registers .ring ≡ ring → length buffer ≡ bytes
-      → Outcome (quiet d a) d memory buffer list (step (switchOf d) (borrowed memory frame buffer list) Process)
-
-  refusing : {r : Taken} (a : Answer) → (r .ready ≡ false) × (r .answer ≡ a) → Refuses a → Takes r ring memory bytes
-  refusing a is o =
-      record {
-        done = λ t. not-both (sym t ∙ is .0);
-        taken = λ t. not-both (sym t ∙ is .0);
-        refused = λ _ d frame buffer list e z. rw (is .1) (o d frame buffer list e z);
-      }
-
-  pub take-empty : {r : Taken} → (r .ready ≡ false) × (r .answer ≡ RingEmpty) → ring .head ≡ ring .tail → Takes r ring memory bytes
-  take-empty is h = refusing RingEmpty is (λ d frame buffer list e z. ring-empty d memory frame buffer list (rw e h))
-
-  module _ (busy : ring .head ≡ ring .tail → ⊥) where
-    pub take-full : {r : Taken} → (r .ready ≡ false) × (r .answer ≡ CreditsFull) → 65536 ≤ ring .credits → Takes r ring memory bytes
-    take-full is h = refusing CreditsFull is (λ d frame buffer list e z. credits-full d memory frame buffer list (rw e busy) (rw e h))
-
-    module _ (credit : ring .credits < 65536) where
-      pub take-outside : {r : Taken} → (r .ready ≡ false) × (r .answer ≡ DescriptorOutside) → inside (descriptorAt ring) 32 memory ≡ false → Takes r ring memory bytes
-      take-outside is h =
-          refusing DescriptorOutside is
-          (λ d frame buffer list e z. descriptor-outside d memory frame buffer list (rw e busy) (rw e credit) (rw e h))
-
-      module _ (within : inside (descriptorAt ring) 32 memory ≡ true) (at : ℕ) (stands : at ≡ descriptorAt ring) (x : Descriptor)
-          (reads : x ≡ descriptor memory at) (s : Slot) (f : Fetches s memory x) where
-        pub take-short : {r : Taken} → (r .ready ≡ false) × (r .answer ≡ BufferShort) → bytes < 6 + s .size → Takes r ring memory bytes
-        take-short is h =
-            refusing BufferShort is
-            (λ d frame buffer list e z.
-            buffer-short d memory frame buffer list (rw e busy) (rw e credit) (rw e within) at (rw e stands) x reads s f (rw z h))
-
-        pub take-ready : 6 + s .size ≤ bytes → Ready s at ring memory bytes
-        take-ready h =
-            record { posted = busy; uncredited = credit; within = within; stands = stands; fetches = rw reads at f; fits = h }
-
--- a slot that is ready, completed
-pub ready-processed : (d : Device) (memory frame buffer list : List ℕ) (s : Slot) (at : ℕ) → Ready s at (d .registers .ring) memory (length buffer)
-    → (r : Called) (memory′ buffer′ : List ℕ) → Completes r d s at memory memory′ buffer buffer′
-    → Outcome r d memory′ buffer′ list (step (switchOf d) (borrowed memory frame buffer list) Process)
-ready-processed d memory frame buffer list s at t r memory′ buffer′ c =
-    processed d memory frame buffer list (t .posted) (t .uncredited) (t .within) at (t .stands) _ refl s (t .fetches) r memory′ buffer′ (t .fits) c
+      pub processed : Outcome (result d (x .counts) (r .slot) completed raised next) d a a′ memory′ buffer′ list (step (switchOf d a) here Process)
+      processed =
+          outcome-done d a here Process _ a′ memory′ buffer′ list
+          (sym refusal-is ∙ eqb-true _ _ (sym (t .ready-is) ∙ ready))
+          effect-is

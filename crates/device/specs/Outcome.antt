@@ -6,14 +6,16 @@ use mathlib.Core.List.{List}
 use lib.Dec.{eqb}
 use Rattle.rules.specs.Choose.{choose}
 use Rattle.rules.specs.Answers.{number}
-use Rattle.rules.specs.Switch.{Switch, Borrowed, Result, switchOf, freshRefusal, freshDevice}
+use Rattle.rules.specs.Tables.{Arrays, freshArrays}
+use Rattle.rules.specs.Switch.{Borrowed, Result, switchOf, freshRefusal, freshDevice}
 use Rattle.rules.specs.declared.Answer.{Answer}
 use Rattle.rules.specs.declared.Device.{Device}
 use Rattle.device.specs.declared.Called.{Called}
 use Rattle.device.specs.declared.Made.{Made}
 
--- of a call r on the device d: what guest memory, buffer and list hold after it, and the rules' result of it
-pub record Outcome (r : Called) (d : Device) (memory buffer list : List ℕ) (of : Result) : Type 0 where
+-- of a call r on the device d, whose places stand in the arrays a and after it in a′: what guest memory, buffer and list hold after it,
+-- and the rules' result of it
+pub record Outcome (r : Called) (d : Device) (a a′ : Arrays) (memory buffer list : List ℕ) (of : Result) : Type 0 where
   pub answer-is : number (r .answer) ≡ of .answer
   pub value-is : r .value ≡ of .value
   pub interrupt-is : r .interrupt ≡ of .interrupt
@@ -23,9 +25,11 @@ pub record Outcome (r : Called) (d : Device) (memory buffer list : List ℕ) (of
   pub memory-is : memory ≡ of .memory
   pub buffer-is : buffer ≡ of .buffer
   pub list-is : list ≡ of .list
-  pub switch-is : switchOf (r .device) ≡ of .switch
-  -- a refused call leaves every part of the device as it was, free entry slots too
-  pub kept : (of .answer ≡ 0 → ⊥) → r .device ≡ d
+  pub switch-is : switchOf (r .device) a′ ≡ of .switch
+  -- a refused call leaves every part of the device as it was
+  pub device-kept : (of .answer ≡ 0 → ⊥) → r .device ≡ d
+  -- unless a command completed OK, no word of either table changes. After one that did, what free places hold is left open
+  pub places-kept : (of .completed ≡ 0x8000 → ⊥) → a′ ≡ a
 
 -- what a call borrows
 unfoldable pub borrowed : List ℕ → List ℕ → List ℕ → List ℕ → Borrowed
@@ -35,7 +39,8 @@ borrowed memory frame buffer list = record { memory = memory; frame = frame; buf
 unfoldable pub quiet : Device → Answer → Called
 quiet d a = record { answer = a; value = 0; interrupt = false; completed = 0; length = 0; outputs = 0; device = d }
 
--- a fresh device; refused, all zero
-pub record Makes (r : Made) (ports id : ℕ) : Type 0 where
+-- a fresh device, and every word of its places 0; refused, no device, and the places as they were
+pub record Makes (r : Made) (ports id : ℕ) (a a′ : Arrays) : Type 0 where
   pub answer-is : number (r .answer) ≡ freshRefusal ports
   pub device-is : r .device ≡ choose (eqb (freshRefusal ports) 0) (freshDevice ports id) (freshDevice 0 0)
+  pub places-are : a′ ≡ choose (eqb (freshRefusal ports) 0) freshArrays a

@@ -1,17 +1,17 @@
-// The device and its public calls. Every call takes the device by value and gives it back, answers with a number of document 01,
-// and has the whole outcome in its contract: the answer, the device after it, and each borrowed byte.
-
-mod slot;
+// The device and its public calls. A call takes the small part of the device by value and gives it back; the places of the tables are
+// lent, to the calls that need them, and changed where they stand. Every call answers with a number of document 01 and has the whole outcome
+// in its contract: the answer, the device after it, each word of the tables and each borrowed byte.
 
 use rules::Answer;
+use rules::Counts;
 use rules::Device;
 use rules::Registers;
 use rules::Request;
-use rules::Status;
 ghost use mathlib.Core.Path.{_≡_};
 ghost use mathlib.Core.List.{List};
 ghost use Prim.Native.Nat.{ℕ};
-ghost use Rattle.rules.specs.Tables.{tablesOf, emptyTables};
+ghost use Rattle.rules.specs.Choose.{choose};
+ghost use Rattle.rules.specs.Tables.{Arrays, arrays, noneLive};
 ghost use Rattle.rules.specs.Switch.{Borrowed, switchOf, step};
 ghost use Rattle.rules.specs.declared.Request.the-variants.{Read, Write, Link, Process, Frame, Header};
 ghost use Rattle.device.specs.Outcome.{Outcome, Makes, borrowed, quiet};
@@ -49,41 +49,48 @@ fn answered(d: Device, answer: Answer) -> Called
     }
 }
 
-// The device with other registers.
-fn with_registers(d: Device, registers: Registers) -> Device
-    ensures { λ r. ⌜ (r .registers ≡ registers) × (r .flows ≡ d .flows) × (r .groups ≡ d .groups) ⌝ }
-{
-    let flows = d.flows;
-    let groups = d.groups;
-    Device {
-        registers: registers,
-        flows: flows,
-        groups: groups,
-    }
-}
-
-// A new device: 1 to 62 ports, all links down, the tables empty.
-pub fn fresh(ports: u64, switch_id: u64) -> Made
-    ensures { λ r. ⌜ Makes r ports «switch_id» ⌝ }
+// A new device: 1 to 62 ports, all links down, the tables empty. Refused, it leaves the arrays as they are.
+pub fn fresh(
+    ports: u64,
+    switch_id: u64,
+    flows: &mut [[u32; 16]; 256],
+    heads: &mut [[u32; 3]; 128],
+    members: &mut [[u16; 62]; 128],
+) -> Made
+    ensures { λ r. ⌜ Makes r ports «switch_id» (arrays (now (flows .entry)) (now (heads .entry)) (now (members .entry))) (arrays (now (flows .exit)) (now (heads .exit)) (now (members .exit))) ⌝ }
 {
     let made = registers::fresh(ports, switch_id);
     let answer = made.answer;
     let registers = made.registers;
-    let flows = tables::fresh_flows();
-    let groups = tables::fresh_groups();
+    if answers::number(answer) == 0 {
+        tables::clear(flows, heads, members);
+    }
     Made {
         answer: answer,
         device: Device {
             registers: registers,
-            flows: flows,
-            groups: groups,
+            counts: Counts {
+                flows: 0,
+                groups: 0,
+            },
         },
+    }
+}
+
+// The device with other registers.
+fn with_registers(d: Device, registers: Registers) -> Device
+    ensures { λ r. ⌜ r ≡ record { registers = registers; counts = d .counts } ⌝ }
+{
+    let counts = d.counts;
+    Device {
+        registers: registers,
+        counts: counts,
     }
 }
 
 // The owner sets a port's link up or down.
 pub fn link(d: Device, port: u64, up: bool) -> Called
-    ensures { λ r. ⌜ ((b : Borrowed) → Outcome r d (b .memory) (b .buffer) (b .list) (step (switchOf d) b (Link port up))) ⌝ }
+    ensures { λ r. ⌜ ((a : Arrays) (b : Borrowed) → Outcome r d a a (b .memory) (b .buffer) (b .list) (step (switchOf d a) b (Link port up))) ⌝ }
 {
     let regs = d.registers;
     let after = registers::link(regs, port, up);
@@ -94,7 +101,7 @@ pub fn link(d: Device, port: u64, up: bool) -> Called
 
 // A register read.
 pub fn read(d: Device, offset: u64, width: u64) -> Called
-    ensures { λ r. ⌜ ((b : Borrowed) → Outcome r d (b .memory) (b .buffer) (b .list) (step (switchOf d) b (Read offset width))) ⌝ }
+    ensures { λ r. ⌜ ((a : Arrays) (b : Borrowed) → Outcome r d a a (b .memory) (b .buffer) (b .list) (step (switchOf d a) b (Read offset width))) ⌝ }
 {
     let regs = d.registers;
     let got = registers::read(regs, offset, width);
@@ -105,30 +112,33 @@ pub fn read(d: Device, offset: u64, width: u64) -> Called
     r
 }
 
-// The device with empty tables: all entry slots are free.
-fn emptied(d: Device) -> Device
-    ensures { λ r. ⌜ (r .registers ≡ d .registers) × (tablesOf (r .flows) (r .groups) ≡ emptyTables) ⌝ }
+// How many places are live after a write: none after a device reset.
+fn counts_after(resets: bool, counts: Counts) -> Counts
+    ensures { λ r. ⌜ r ≡ choose resets noneLive counts ⌝ }
 {
-    let mut next = d;
-    next.flows.count = 0;
-    next.groups.count = 0;
-    next
+    if resets {
+        Counts {
+            flows: 0,
+            groups: 0,
+        }
+    } else {
+        counts
+    }
 }
 
-// A register write. The tables are touched by a device reset alone.
+// A register write. A device reset leaves no place live, and no write touches a place.
 pub fn write(d: Device, offset: u64, width: u64, value: u64) -> Called
-    ensures { λ r. ⌜ ((b : Borrowed) → Outcome r d (b .memory) (b .buffer) (b .list) (step (switchOf d) b (Write offset width value))) ⌝ }
+    ensures { λ r. ⌜ ((a : Arrays) (b : Borrowed) → Outcome r d a a (b .memory) (b .buffer) (b .list) (step (switchOf d a) b (Write offset width value))) ⌝ }
 {
     let regs = d.registers;
     let w = registers::write(regs, offset, width, value);
     let answer = w.answer;
     let registers = w.registers;
-    let after = with_registers(d, registers);
-    if w.resets {
-        let mut r = answered(emptied(after), answer);
-        r.interrupt = w.interrupt;
-        return r;
-    }
+    let counts = d.counts;
+    let after = Device {
+        registers: registers,
+        counts: counts_after(w.resets, counts),
+    };
     let mut r = answered(after, answer);
     r.interrupt = w.interrupt;
     r
@@ -136,77 +146,76 @@ pub fn write(d: Device, offset: u64, width: u64, value: u64) -> Called
 
 // The journal's header, to the start of the buffer.
 pub fn header(d: Device, buffer: &mut [u8]) -> Called
-    ensures { λ r. ⌜ ((memory frame list : List ℕ) → Outcome r d memory (now (buffer .exit)) list (step (switchOf d) (borrowed memory frame (now (buffer .entry)) list) Header)) ⌝ }
+    ensures { λ r. ⌜ ((a : Arrays) (memory frame list : List ℕ) → Outcome r d a a memory (now (buffer .exit)) list (step (switchOf d a) (borrowed memory frame (now (buffer .entry)) list) Header)) ⌝ }
 {
     if buffer.len() < 6 {
         return answered(d, Answer::BufferShort);
     }
     let regs = d.registers;
-    let n = journal::writer::header(buffer, regs.ports);
+    let n = journal::header(buffer, regs.ports);
     let mut r = answered(d, Answer::Done);
     r.length = n;
     r
 }
 
-// Process (document 01: the work call): carry out and complete the slot at TAIL, or say why not. The device is changed in one local and
-// handed back by one way out: what is compiled then copies it least.
-pub fn process(d: Device, memory: &mut [u8], buffer: &mut [u8]) -> Called
-    ensures { λ r. ⌜ ((frame list : List ℕ) → Outcome r d (now (memory .exit)) (now (buffer .exit)) list (step (switchOf d) (borrowed (now (memory .entry)) frame (now (buffer .entry)) list) Process)) ⌝ }
+// Process (document 01: the work call): carry out and complete the slot at TAIL, or say why not. The payload is copied into its record
+// and decoded there, so that what is recorded is what was carried out, whatever the guest writes meanwhile.
+pub fn process(
+    d: Device,
+    memory: &mut [u8],
+    buffer: &mut [u8],
+    flows: &mut [[u32; 16]; 256],
+    heads: &mut [[u32; 3]; 128],
+    members: &mut [[u16; 62]; 128],
+) -> Called
+    ensures { λ r. ⌜ ((frame list : List ℕ) → Outcome r d (arrays (now (flows .entry)) (now (heads .entry)) (now (members .entry))) (arrays (now (flows .exit)) (now (heads .exit)) (now (members .exit))) (now (memory .exit)) (now (buffer .exit)) list (step (switchOf d (arrays (now (flows .entry)) (now (heads .entry)) (now (members .entry)))) (borrowed (now (memory .entry)) frame (now (buffer .entry)) list) Process)) ⌝ }
 {
     let regs = d.registers;
     let ring = regs.ring;
     let t = slot::take(memory, ring, buffer.len());
     let answer = t.answer;
-    let s = t.slot;
-    let mut next = d;
-    let mut interrupt = false;
-    let mut completed: u16 = 0;
-    let mut length: usize = 0;
-    if t.ready {
-        let q = slot::request_of(memory, s, regs.ports);
-        let what = q.what;
-        let members = q.members;
-        let mut status = Status::Ok;
-        if execute::changes_flows(what) {
-            let flows = next.flows;
-            let r = execute::on_flows(what, flows);
-            status = r.status;
-            let after = r.table;
-            next.flows = after;
-        } else {
-            let groups = next.groups;
-            let r = execute::on_groups(what, members, groups);
-            status = r.status;
-            let after = r.table;
-            next.groups = after;
-        }
-        completed = slot::finish(memory, buffer, t.at, s, status, ring.tail);
-        length = 6 + s.size;
-        interrupt = registers::complete_interrupt(ring);
-        let mut moved = regs;
-        let after = registers::complete(ring);
-        moved.ring = after;
-        next.registers = moved;
+    if !t.ready {
+        return answered(d, answer);
     }
+    let s = t.slot;
+    let q = slot::prepare(memory, buffer, s, regs.ports);
+    let counts = d.counts;
+    let x = execute::execute(q, counts, flows, heads, members);
+    let status = x.status;
+    let completed = slot::finish(memory, buffer, t.at, s.size, status, ring.tail);
+    let mut moved = regs;
+    let next = registers::complete(ring);
+    moved.ring = next;
+    let live = x.counts;
     Called {
-        answer: answer,
+        answer: Answer::Done,
         value: 0,
-        interrupt: interrupt,
+        interrupt: registers::complete_interrupt(ring),
         completed: completed,
-        length: length,
+        length: 6 + s.size,
         outputs: 0,
-        device: next,
+        device: Device {
+            registers: moved,
+            counts: live,
+        },
     }
 }
 
 // A frame in at a port: its outputs, to the start of the list.
-pub fn frame(d: Device, port: u64, f: &[u8], list: &mut [u16]) -> Called
-    ensures { λ r. ⌜ ((memory buffer : List ℕ) → Outcome r d memory buffer (now (list .exit)) (step (switchOf d) (borrowed memory (now (f .entry)) buffer (now (list .entry))) (Frame port))) ⌝ }
+pub fn frame(
+    d: Device,
+    port: u64,
+    f: &[u8],
+    list: &mut [u16],
+    flows: &[[u32; 16]; 256],
+    heads: &[[u32; 3]; 128],
+    members: &[[u16; 62]; 128],
+) -> Called
+    ensures { λ r. ⌜ ((memory buffer : List ℕ) → Outcome r d (arrays (now (flows .entry)) (now (heads .entry)) (now (members .entry))) (arrays (now (flows .entry)) (now (heads .entry)) (now (members .entry))) memory buffer (now (list .exit)) (step (switchOf d (arrays (now (flows .entry)) (now (heads .entry)) (now (members .entry)))) (borrowed memory (now (f .entry)) buffer (now (list .entry))) (Frame port))) ⌝ }
 {
     let regs = d.registers;
-    let flows = d.flows;
-    let groups = d.groups;
-    let x = egress::frame(regs, flows, groups, port, f, list);
+    let counts = d.counts;
+    let x = egress::frame(regs, counts, flows, heads, members, port, f, list);
     let answer = x.answer;
     let n = x.outputs;
     let mut r = answered(d, answer);
@@ -214,7 +223,7 @@ pub fn frame(d: Device, port: u64, f: &[u8], list: &mut [u16]) -> Called
     r
 }
 
-// Any call: what it asks for, and all that it may borrow. It is the rules' step.
+// Any call: what it asks for, all that it may borrow, and the places. It is the rules' step.
 pub fn call(
     d: Device,
     request: Request,
@@ -222,8 +231,11 @@ pub fn call(
     f: &[u8],
     buffer: &mut [u8],
     list: &mut [u16],
+    flows: &mut [[u32; 16]; 256],
+    heads: &mut [[u32; 3]; 128],
+    members: &mut [[u16; 62]; 128],
 ) -> Called
-    ensures { λ r. ⌜ Outcome r d (now (memory .exit)) (now (buffer .exit)) (now (list .exit)) (step (switchOf d) (borrowed (now (memory .entry)) (now (f .entry)) (now (buffer .entry)) (now (list .entry))) request) ⌝ }
+    ensures { λ r. ⌜ Outcome r d (arrays (now (flows .entry)) (now (heads .entry)) (now (members .entry))) (arrays (now (flows .exit)) (now (heads .exit)) (now (members .exit))) (now (memory .exit)) (now (buffer .exit)) (now (list .exit)) (step (switchOf d (arrays (now (flows .entry)) (now (heads .entry)) (now (members .entry)))) (borrowed (now (memory .entry)) (now (f .entry)) (now (buffer .entry)) (now (list .entry))) request) ⌝ }
 {
     match request {
         Request::Read { offset, width } => read(d, offset, width),
@@ -233,8 +245,8 @@ pub fn call(
             value,
         } => write(d, offset, width, value),
         Request::Link { port, up } => link(d, port, up),
-        Request::Process => process(d, memory, buffer),
-        Request::Frame { port } => frame(d, port, f, list),
+        Request::Process => process(d, memory, buffer, flows, heads, members),
+        Request::Frame { port } => frame(d, port, f, list, flows, heads, members),
         Request::Header => header(d, buffer),
     }
 }

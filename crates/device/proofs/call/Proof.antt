@@ -1,5 +1,7 @@
+-- `device::call` meets its contract: each arm is the call's own.
+-- Assumes nothing.
+use Rattle.rules.specs.Tables.{arrays}
 use Rattle.device.specs.Outcome.{borrowed}
-use native.Mathlib.Omega.{arith}
 use borrow.Author.Needs.{needs}
 use Rattle.device.proofs.call.Statement.{statement}
 use Rattle.device.proofs.call.Tie as tie
@@ -50,15 +52,21 @@ header-requires c κs = search needs
 
 returns : tie.Need-returns
 unfolding borrowed
-returns c = let a = c .before .before .before .before .before .before .before .before .args in rw (c .before .before .request .given .1) (c .read .ensures (borrowed (a .memory .now) (a .f .now) (a .buffer .now) (a .list .now)))
+returns c =
+    let a = c .before .before .before .before .before .before .before .before .args in
+    rw (c .before .before .request .given .1) (c .read .ensures (arrays (a .flows .now) (a .heads .now) (a .members .now)) (borrowed (a .memory .now) (a .f .now) (a .buffer .now) (a .list .now)))
 
 returns-2 : tie.Need-returns-2
 unfolding borrowed
-returns-2 c = let a = c .before .before .before .before .before .before .before .before .args in rw (c .before .before .request2 .given .1) (c .write .ensures (borrowed (a .memory .now) (a .f .now) (a .buffer .now) (a .list .now)))
+returns-2 c =
+    let a = c .before .before .before .before .before .before .before .before .args in
+    rw (c .before .before .request2 .given .1) (c .write .ensures (arrays (a .flows .now) (a .heads .now) (a .members .now)) (borrowed (a .memory .now) (a .f .now) (a .buffer .now) (a .list .now)))
 
 returns-3 : tie.Need-returns-3
 unfolding borrowed
-returns-3 c = let a = c .before .before .before .before .before .before .before .before .args in rw (c .before .before .request3 .given .1) (c .link .ensures (borrowed (a .memory .now) (a .f .now) (a .buffer .now) (a .list .now)))
+returns-3 c =
+    let a = c .before .before .before .before .before .before .before .before .args in
+    rw (c .before .before .request3 .given .1) (c .link .ensures (arrays (a .flows .now) (a .heads .now) (a .members .now)) (borrowed (a .memory .now) (a .f .now) (a .buffer .now) (a .list .now)))
 
 same-length : tie.Need-same-length
 same-length c = search needs
@@ -67,19 +75,25 @@ same-length-2 : tie.Need-same-length-2
 same-length-2 c = search needs
 
 returns-4 : tie.Need-returns-4
-returns-4 c = let a = c .before .before .before .before .before .before .before .before .before .before .before .before .before .args in rw (c .before .before .before .before .before .before .before .enum-told .given .1) (c .before .before .before .before .process .ensures (a .f .now) (a .list .now))
+returns-4 c =
+    let a = c .before .before .before .before .before .before .before .before .before .before .before .before .before .before .before .before .args in
+    rw (c .before .before .before .before .before .before .before .before .before .before .enum-told .given .1) (c .before .before .before .before .process .ensures (a .f .now) (a .list .now))
 
 same-length-3 : tie.Need-same-length-3
 same-length-3 c = search needs
 
 returns-5 : tie.Need-returns-5
-returns-5 c = let a = c .before .before .before .before .before .before .before .before .before .before .before .args in rw (c .before .before .before .before .before .request4 .given .1) (c .before .before .frame .ensures (a .memory .now) (a .buffer .now))
+returns-5 c =
+    let a = c .before .before .before .before .before .before .before .before .before .before .before .before .before .before .args in
+    rw (c .before .before .before .before .before .before .before .before .request4 .given .1) (c .before .before .frame .ensures (a .memory .now) (a .buffer .now))
 
 same-length-4 : tie.Need-same-length-4
 same-length-4 c = search needs
 
 returns-6 : tie.Need-returns-6
-returns-6 c = let a = c .before .before .before .before .before .before .before .before .before .before .args in rw (c .before .before .before .before .enum-told2 .given .1) (c .before .before .header .ensures (a .memory .now) (a .f .now) (a .list .now))
+returns-6 c =
+    let a = c .before .before .before .before .before .before .before .before .before .before .args in
+    rw (c .before .before .before .before .enum-told2 .given .1) (c .before .before .header .ensures (arrays (a .flows .now) (a .heads .now) (a .members .now)) (a .memory .now) (a .f .now) (a .list .now))
 
 pub call-spec : {M : Type 1} → statement M
 call-spec =

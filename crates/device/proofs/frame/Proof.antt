@@ -1,6 +1,6 @@
-use Rattle.rules.specs.Tables.{tablesOf}
-use Rattle.device.proofs.Outcome.{withOutputs, frame-outcome}
-use native.Mathlib.Omega.{arith}
+-- `device::frame` meets its contract.
+-- Assumes nothing.
+use Rattle.device.proofs.Framing.{withOutputs, frame-outcome}
 use borrow.Author.Needs.{needs}
 use Rattle.device.proofs.frame.Statement.{statement}
 use Rattle.device.proofs.frame.Tie as tie
@@ -19,8 +19,8 @@ same-length : tie.Need-same-length
 same-length c = search needs
 
 returns : tie.Need-returns
-unfolding withOutputs tablesOf
-returns c = λ memory buffer. rw (c .answered .ensures) (frame-outcome _ memory _ buffer _ _ _ _ (c .before .before .before .frame .ensures))
+unfolding withOutputs
+returns c = λ memory buffer. rw (c .answered .ensures) (frame-outcome _ _ memory _ buffer _ _ _ _ (c .before .before .before .frame .ensures))
 
 pub frame-spec : {M : Type 1} → statement M
 frame-spec = tie.close (tie.spec frame-requires answered-requires same-length returns)

@@ -1,26 +1,39 @@
-use mathlib.Core.Path.{refl}
+-- `device::fresh` meets its contract.
+-- Assumes nothing.
+use mathlib.Core.Path.{refl, sym, _∙_}
+use Rattle.rules.specs.Tables.{noneLive}
 use Rattle.device.proofs.Outcome.{made}
-use native.Mathlib.Omega.{arith}
 use borrow.Author.Needs.{needs}
 use Rattle.device.proofs.fresh.Statement.{statement}
 use Rattle.device.proofs.fresh.Tie as tie
 use Rattle.device.proofs.fresh.Reads as reads
 use Rattle.device.proofs.fresh.Lts as lts
+use Rattle.answers.proofs.number.Reads as number-reads
 use Rattle.registers.proofs.fresh.Reads as fresh-reads
-use Rattle.tables.proofs.fresh_flows.Reads as fresh-flows-reads
-use Rattle.tables.proofs.fresh_groups.Reads as fresh-groups-reads
+use Rattle.tables.proofs.clear.Reads as clear-reads
 
 fresh-requires : tie.Need-fresh-requires
 fresh-requires c κs = search needs
 
-fresh-flows-requires : tie.Need-fresh-flows-requires
-fresh-flows-requires c κs = search needs
+number-requires : tie.Need-number-requires
+number-requires c κs = search needs
 
-fresh-groups-requires : tie.Need-fresh-groups-requires
-fresh-groups-requires c κs = search needs
+clear-requires : tie.Need-clear-requires
+clear-requires c κs = search needs
 
 returns : tie.Need-returns
-returns c = made _ _ _ (c .before .before .before .fresh .result) (c .before .before .before .fresh .ensures) refl refl (c .before .fresh-flows .ensures) (c .fresh-groups .ensures)
+unfolding noneLive
+returns c =
+    let n = c .before .before .before .before .before in
+    let f = n .before .before .fresh in
+    made _ _ _ (f .result) _ _ (f .ensures) refl (λ z. c .clear .ensures) (λ z. absurd (z (sym (n .number .ensures) ∙ c .before .before .before .before .if1 .taken)))
+
+returns-2 : tie.Need-returns-2
+unfolding noneLive
+returns-2 c =
+    let n = c .before in
+    let f = n .before .before .fresh in
+    made _ _ _ (f .result) _ _ (f .ensures) refl (λ z. absurd (c .if1 .left (n .number .ensures ∙ z))) (λ z. refl)
 
 pub fresh-spec : {M : Type 1} → statement M
-fresh-spec = tie.close (tie.spec fresh-requires fresh-flows-requires fresh-groups-requires returns)
+fresh-spec = tie.close (tie.spec fresh-requires number-requires clear-requires returns returns-2)

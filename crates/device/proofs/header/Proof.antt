@@ -6,13 +6,13 @@ use Rattle.device.proofs.header.Tie as tie
 use Rattle.device.proofs.header.Reads as reads
 use Rattle.device.proofs.header.Lts as lts
 use Rattle.device.proofs.answered.Reads as answered-reads
-use Rattle.journal.proofs.writer.header.Reads as header-reads
+use Rattle.journal.proofs.header.Reads as header-reads
 
 answered-requires : tie.Need-answered-requires
 answered-requires c κs = search needs
 
 returns : tie.Need-returns
-returns c = λ memory frame list. rw (c .answered .ensures) (header-short _ memory frame _ list (c .before .if1 .taken))
+returns c = λ a memory frame list. rw (c .answered .ensures) (header-short _ a memory frame _ list (c .before .if1 .taken))
 
 header-requires : tie.Need-header-requires
 header-requires c κs = search needs
@@ -25,7 +25,7 @@ same-length c = search needs
 
 returns-2 : tie.Need-returns-2
 unfolding withLength
-returns-2 c = λ memory frame list. rw (c .answered2 .ensures) (header-done _ memory frame _ list _ _ (c .before .before .before .before .before .before .if1 .left) (c .before .before .before .header .ensures))
+returns-2 c = λ a memory frame list. rw (c .answered2 .ensures) (header-done _ a memory frame _ list _ _ (c .before .before .before .before .before .before .if1 .left) (c .before .before .before .header .ensures))
 
 pub header-spec : {M : Type 1} → statement M
 header-spec =

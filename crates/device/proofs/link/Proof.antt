@@ -1,5 +1,6 @@
+-- `device::link` meets its contract.
+-- Assumes nothing.
 use Rattle.device.proofs.Outcome.{link-outcome}
-use native.Mathlib.Omega.{arith}
 use borrow.Author.Needs.{needs}
 use Rattle.device.proofs.link.Statement.{statement}
 use Rattle.device.proofs.link.Tie as tie
@@ -19,7 +20,9 @@ answered-requires : tie.Need-answered-requires
 answered-requires c κs = search needs
 
 returns : tie.Need-returns
-returns c = λ b. rw (c .answered .ensures) (link-outcome _ _ b _ _ (c .before .before .before .link .result) (c .before .before .before .link .ensures) (c .before .with-registers .ensures))
+returns c =
+    λ a b. rw (c .answered .ensures)
+    (link-outcome _ a b _ _ _ (c .before .before .before .link .result) (c .before .before .before .link .ensures) (c .before .with-registers .ensures))
 
 pub link-spec : {M : Type 1} → statement M
 link-spec = tie.close (tie.spec link-requires with-registers-requires answered-requires returns)

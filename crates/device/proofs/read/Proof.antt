@@ -16,7 +16,7 @@ answered-requires c κs = search needs
 
 returns : tie.Need-returns
 unfolding withValue
-returns c = λ b. rw (c .answered .ensures) (read-outcome _ b _ _ (c .before .read .result) (c .before .read .ensures))
+returns c = λ a b. rw (c .answered .ensures) (read-outcome _ a b _ _ (c .before .read .result) (c .before .read .ensures))
 
 pub read-spec : {M : Type 1} → statement M
 read-spec = tie.close (tie.spec read-requires answered-requires returns)
