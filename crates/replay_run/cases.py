@@ -76,6 +76,11 @@ def cases():
     yield header(0, b"RKT", 2)
     yield header(4, b"RKT", 0x0101)
     yield header(4, b"RKT", 0)
+    # too short for a header, and another mark
+    yield header(4, b"RKX")[:5]
+    yield header(4, b"XKT")[:3]
+    yield header(4, b"RKT", 2)
+    yield header(63, b"RKT", 2)
     # cut at each kind of place: in the first six bytes, behind them, in the payload, one byte short
     for n in (7, 8, 9, 10, 11, 12, 13, 50, 83):
         yield change[:n]

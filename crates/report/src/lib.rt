@@ -1,0 +1,133 @@
+// What a replay prints.
+use journal::put_bytes;
+use replaying::reader::Progress;
+use replaying::replay::Replayed;
+ghost use mathlib.Core.Path.{_≡_};
+ghost use Prim.Native.Nat.{_+_, _≤_};
+ghost use lib.ListN.{length};
+ghost use Rattle.rules.specs.Tables.{arrays, liveFlows, liveGroups};
+ghost use Rattle.rules.specs.Journal.{decimal, item, line as Journal·line, Replayed.Replays, Replayed.Fails, report as Journal·report};
+ghost use Rattle.replaying.specs.Reading.{progressOf};
+ghost use Rattle.replaying.specs.Replaying.{resultOf};
+ghost use Rattle.report.specs.Reporting.{Front, Puts, Spells};
+
+// A number's digits, from a position of 20 bytes on.
+struct Digits {
+    start: usize,
+    bytes: [u8; 20],
+}
+
+// Decimal digits, from the last one on.
+fn spell(n: u64) -> Digits
+    ensures { λ r. ⌜ Spells r n ⌝ }
+{
+    let mut bytes = [0u8; 20];
+    let mut start: usize = 19;
+    let mut rest = n;
+    while 10 <= rest {
+        bytes[start] = (48 + rest % 10) as u8;
+        rest = rest / 10;
+        start -= 1;
+    }
+    bytes[start] = (48 + rest) as u8;
+    Digits {
+        start: start,
+        bytes: bytes,
+    }
+}
+
+fn put_number(out: &mut [u8], at: usize, n: u64) -> usize
+    requires { ⌜ at + 20 ≤ length (now out) ⌝ }
+    ensures { λ r. ⌜ Puts r (now (out .exit)) at (decimal n) (now (out .entry)) 20 ⌝ }
+{
+    let d = spell(n);
+    let start = d.start;
+    let bytes = d.bytes;
+    put_bytes(out, at, &bytes[start..]);
+    at + (20 - start)
+}
+
+// A word, a space, a number.
+fn put_item(out: &mut [u8], at: usize, word: &[u8], n: u64) -> usize
+    requires { ⌜ at + length (now word) + 21 ≤ length (now out) ⌝ }
+    ensures { λ r. ⌜ Puts r (now (out .exit)) at (item (now (word .entry)) n) (now (out .entry)) (length (now (word .entry)) + 21) ⌝ }
+{
+    put_bytes(out, at, word);
+    let end = at + word.len();
+    put_bytes(out, end, &[b' ']);
+    put_number(out, end + 1, n)
+}
+
+fn put_line(out: &mut [u8], at: usize, word: &[u8], n: u64) -> usize
+    requires { ⌜ at + length (now word) + 22 ≤ length (now out) ⌝ }
+    ensures { λ r. ⌜ Puts r (now (out .exit)) at (Journal·line (now (word .entry)) n) (now (out .entry)) (length (now (word .entry)) + 22) ⌝ }
+{
+    let end = put_item(out, at, word, n);
+    put_bytes(out, end, &[b'\n']);
+    end + 1
+}
+
+// How many places are live: a count beyond the places there are counts as all of them.
+fn live_flows(count: usize, flows: &[[u32; 16]]) -> u64
+    ensures { λ r. ⌜ r ≡ length (liveFlows count (now (flows .entry))) ⌝ }
+{
+    wire::least(count, flows.len()) as u64
+}
+
+fn live_groups(count: usize, heads: &[[u32; 3]], members: &[[u16; 62]]) -> u64
+    ensures { λ r. ⌜ r ≡ length (liveGroups count (now (heads .entry)) (now (members .entry))) ⌝ }
+{
+    wire::least(count, wire::least(heads.len(), members.len())) as u64
+}
+
+// The five lines.
+fn put_progress(
+    out: &mut [u8],
+    p: Progress,
+    flows: &[[u32; 16]; 256],
+    heads: &[[u32; 3]; 128],
+    members: &[[u16; 62]; 128],
+) -> usize
+    requires { ⌜ 160 ≤ length (now out) ⌝ }
+    ensures { λ r. ⌜ Puts r (now (out .exit)) 0 (Journal·report (Replays (progressOf p (arrays (now (flows .entry)) (now (heads .entry)) (now (members .entry)))))) (now (out .entry)) 160 ⌝ }
+{
+    let counts = p.counts;
+    let live = live_flows(counts.flows, flows);
+    let groups = live_groups(counts.groups, heads, members);
+    let a = put_line(out, 0, b"ports", p.ports as u64);
+    let b = put_line(out, a, b"lines", p.records);
+    let c = put_line(out, b, b"charged", p.charged);
+    let d = put_line(out, c, b"flows", live);
+    put_line(out, d, b"groups", groups)
+}
+
+// The line of a fault.
+fn put_fault(out: &mut [u8], answer: u64, at: u64) -> usize
+    requires { ⌜ 160 ≤ length (now out) ⌝ }
+    ensures { λ r. ⌜ Puts r (now (out .exit)) 0 (Journal·report (Fails answer at)) (now (out .entry)) 160 ⌝ }
+{
+    let a = put_item(out, 0, b"refused", answer);
+    put_bytes(out, a, &[b' ']);
+    put_line(out, a + 1, b"line", at)
+}
+
+// The lines that the program prints, at the start of a buffer, and how many bytes they have.
+pub fn report(
+    out: &mut [u8; 160],
+    q: Replayed,
+    flows: &[[u32; 16]; 256],
+    heads: &[[u32; 3]; 128],
+    members: &[[u16; 62]; 128],
+) -> usize
+    ensures { λ r. ⌜ Puts r (now (out .exit)) 0 (Journal·report (resultOf q (arrays (now (flows .entry)) (now (heads .entry)) (now (members .entry))))) (now (out .entry)) 160 ⌝ }
+    ensures { λ r. ⌜ Front r (now (out .exit)) ⌝ }
+{
+    let answer = q.answer;
+    let progress = q.progress;
+    let n = answers::number(answer);
+    if n == 0 {
+        put_progress(out, progress, flows, heads, members)
+    } else {
+        put_fault(out, n, q.at)
+    }
+}
