@@ -17,7 +17,7 @@ use Rattle.rules.specs.declared.Request.{Request}
 use Rattle.rules.specs.declared.Request.the-variants.{Read, Write, Link, Process, Frame, Header}
 use Rattle.rules.proofs.Cases.{by-eq}
 use Rattle.rules.proofs.Switch.{refused, accepted}
-use Rattle.history.specs.Trace.{Moment, Seen, stepAt, seen, final, trace, noted, observe}
+use Rattle.history.specs.Trace.{Call, Seen, stepAt, seen, final, trace, noted, observe}
 
 -- an effect answers 0
 pub effect-answers : (s : Switch) (b : Borrowed) (r : Request) → effect s b r .answer ≡ 0
@@ -31,19 +31,19 @@ effect-answers s b Header = refl
 
 module _ {B : Type 0} (note : B → Seen → B) (I : Switch → B → Type 0)
     (keeps : (s : Switch) (b : B) (m : Borrowed) (r : Request) → I s b → refusal s m r ≡ 0
-    → I (effect s m r .switch) (note b (seen r (effect s m r)))) where
-  one : (s : Switch) (b : B) (m : Borrowed) (r : Request) → I s b → I (step s m r .switch) (noted note b (seen r (step s m r)))
+    → I (effect s m r .switch) (note b (seen s m r (effect s m r)))) where
+  one : (s : Switch) (b : B) (m : Borrowed) (r : Request) → I s b → I (step s m r .switch) (noted note b (seen s m r (step s m r)))
   unfolding noted seen unchanged
   one s b m r h =
       by-eq (refusal s m r) 0
       (λ e p. rw (accepted s m r e, eq-eqb (effect s m r .answer) 0 (effect-answers s m r)) (keeps s b m r h e))
       (λ ne p. rw (refused s m r ne, ne-eqb (refusal s m r) 0 ne) h)
 
-  pub always : (s : Switch) (b : B) (ms : List Moment) → I s b → I (final s ms) (observe note b (trace s ms))
+  pub always : (s : Switch) (b : B) (ms : List Call) → I s b → I (final s ms) (observe note b (trace s ms))
   unfolding final trace observe stepAt
   always s b [] h = h
   always s b (m ∷ ms) h =
-      always (step s (m .borrowed) (m .request) .switch) (noted note b (seen (m .request) (step s (m .borrowed) (m .request)))) ms
+      always (step s (m .borrowed) (m .request) .switch) (noted note b (seen s (m .borrowed) (m .request) (step s (m .borrowed) (m .request)))) ms
       (one s b (m .borrowed) (m .request) h)
 
 -- an answer is the refusal

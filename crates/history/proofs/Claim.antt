@@ -1,6 +1,6 @@
 -- Demand 3, proved: one theorem over every list of calls.
 -- Assumes nothing.
-use Prim.Native.Nat.{ℕ, _+_, _*_, _≤_}
+use Prim.Native.Nat.{ℕ, _≤_}
 use mathlib.Core.Bool.{true}
 use mathlib.Core.Path.{_≡_, refl, sym, ap, _∙_}
 use mathlib.Core.List.{List}
@@ -8,42 +8,36 @@ use native.Mathlib.Omega.{arith}
 use lib.ListN.{length, take}
 use lib.Dec.{leb}
 use borrow.Author.Tests.{eqb-true, ne-eqb}
-use Rattle.rules.specs.Bytes.{bytesOf, splice}
+use Rattle.rules.specs.Bytes.{bytesOf}
 use Rattle.rules.specs.Ring.{zeroRing, outstanding}
-use Rattle.rules.specs.Descriptor.{Fetched, descriptorAt, descriptor, completionAt, fetch}
+use Rattle.rules.specs.Descriptor.{Fetched, descriptorAt, descriptor, fetch}
 use Rattle.rules.specs.Descriptor.Fetched.{Faulty, Payload}
 use Rattle.rules.specs.Registers.{freshRegisters}
-use Rattle.rules.specs.Tables.{Tables, execute}
+use Rattle.rules.specs.Tables.{Tables, cookieOf, idOf, execute}
 use Rattle.rules.specs.Journal.{Progress, isUnread, recordAgrees, tablesAfter, counted, ready, finish, finished, endsIn, replay, header, completion}
-use Rattle.rules.specs.Switch.{Switch, Borrowed, freshSwitch, unchanged, carry, carriedSlot, slotRecord, processEffect, headed, effect, step}
+use Rattle.rules.specs.Switch.{Switch, Borrowed, freshSwitch, unchanged, carry, carriedSlot, processEffect, headed, effect, step}
 use Rattle.rules.specs.declared.Status.the-variants.{Ok}
 use Rattle.rules.specs.declared.Request.the-variants.{Process, Header}
 use Rattle.rules.proofs.Cases.{by-eq, by-test, and-right}
 use Rattle.rules.proofs.Bytes.{take-splice}
 use Rattle.rules.proofs.Switch.{refused, accepted}
 use Rattle.rules.proofs.Tables.{not-ok-unchanged}
-use Rattle.history.specs.Trace.{Moment, seen, final, trace}
-use Rattle.history.specs.RingHistory.{RingHistory, emptied, notesRing}
-use Rattle.history.specs.Ledger.{blank, notesLedger}
-use Rattle.history.specs.Tally.{noTally, notesTally}
-use Rattle.history.specs.Claim.{ring, ledger, tally, slotIn, Claim}
+use Rattle.history.specs.Trace.{Call, final, trace}
+use Rattle.history.specs.RingHistory.{emptied, notesRing, ringOf}
+use Rattle.history.specs.JournalHistory.{noRecords, notesJournal, journalOf}
+use Rattle.history.specs.CreditHistory.{noCredits, notesCredits, creditsOf}
+use Rattle.history.specs.Claim.{Claim}
 use Rattle.history.proofs.Always.{always, answer-is, process-idle, process-accepted}
+use Rattle.history.proofs.RingInvariant.{RingInvariantOf, ring-emptied, ring-order, ring-idle, ring-keeps}
+use Rattle.history.proofs.JournalInvariant.{JournalInvariant, journal-begins, journal-keeps}
+use Rattle.history.proofs.CreditInvariant.{CreditInvariant, credits-keep}
+use Rattle.history.proofs.Completions.{step-completes, each-completed}
+use Rattle.history.proofs.TableOrder.{ordered-table}
 use Rattle.history.proofs.Drains.{drain}
-use Rattle.history.proofs.Tied.{TiedTo, tied-empty, tied-order, tied-idle, process-written, process-slot, ring-keeps}
-use Rattle.history.proofs.Kept.{Kept, kept-blank, ledger-keeps}
-use Rattle.history.proofs.Even.{Even, credits-keep}
 
--- ---- What a process call completes
+-- ---- A status other than OK
 
-process-completes : (s : Switch) (b : Borrowed) (h : RingHistory) → TiedTo (s .registers .ring) h → step s b Process .answer ≡ 0
-    → step s b Process .memory
-    ≡ splice (s .registers .ring .«base_addr» + 32 * slotIn (take (step s b Process .length) (step s b Process .buffer)) + 30) (bytesOf 2 (step s b Process .completed)) (b .memory)
-unfolding slotIn
-process-completes s b h t e =
-    let w : take (processEffect s b .length) (processEffect s b .buffer) ≡ slotRecord s (b .memory) = unfold seen in process-written s b in
-    rw (process-accepted s b e, w, process-slot s b h t) (unfold processEffect completionAt descriptorAt in refl)
-
--- a status other than OK leaves the tables
+-- leaves the tables
 carry-unpaid : (ports : ℕ) (t : Tables) (f : Fetched) → (completion (carry ports t f .status) ≡ completion Ok → ⊥) → carry ports t f .tables ≡ t
 unfolding carry
 carry-unpaid ports t (Faulty e) n = refl
@@ -79,27 +73,32 @@ header-writes ports s b q e =
 -- ---- THE THEOREM
 
 -- for every port count from 1 to 62, every switch ID and every list of calls
-pub demand3 : (ports id : ℕ) → 1 ≤ ports → ports ≤ 62 → (calls : List Moment)
+pub demand3 : (ports id : ℕ) → 1 ≤ ports → ports ≤ 62 → (calls : List Call)
     → Claim ports (final (freshSwitch ports id) calls) (trace (freshSwitch ports id) calls)
-unfolding ring ledger tally
+unfolding ringOf journalOf creditsOf
 demand3 ports id lo hi calls =
     let s₀ = freshSwitch ports id in
     let s = final s₀ calls in
     let t = trace s₀ calls in
-    let tied = always notesRing (λ s b. TiedTo (s .registers .ring) b) ring-keeps s₀ (emptied 0) calls
-    (unfold freshSwitch freshRegisters zeroRing in tied-empty 0 (omega arith)) in
-    let kept = always notesLedger (Kept ports) (ledger-keeps ports) s₀ blank calls
-    (unfold freshSwitch freshRegisters in kept-blank ports (freshSwitch ports id) refl lo hi refl) in
-    let even = always notesTally (λ s t. Even (s .registers .ring .credits) t) credits-keep s₀ noTally calls
-    (unfold freshSwitch freshRegisters zeroRing noTally in refl) in
+    let ring : (cs : List Call) → RingInvariantOf (final s₀ cs .registers .ring) (ringOf (trace s₀ cs)) =
+    λ cs. always notesRing (λ s b. RingInvariantOf (s .registers .ring) b) ring-keeps s₀ (emptied 0) cs
+    (unfold freshSwitch freshRegisters zeroRing in ring-emptied 0 (omega arith)) in
+    let here = ring calls in
+    let journal = always notesJournal (JournalInvariant ports) (journal-keeps ports) s₀ noRecords calls
+    (unfold freshSwitch freshRegisters in journal-begins ports (freshSwitch ports id) refl lo hi refl) in
+    let credits = always notesCredits (λ s t. CreditInvariant (s .registers .ring .credits) t) credits-keep s₀ noCredits calls
+    (unfold freshSwitch freshRegisters zeroRing noCredits in refl) in
     record {
-      order = tied-order tied;
-      idle = λ b. let i = process-idle s b in let j = tied-idle tied in (λ e. j .0 (i .0 e), λ e. i .1 (j .1 e));
-      completes = λ b. process-completes s b _ tied;
-      replays = unfold replay finish ready finished endsIn in rw (kept .reads);
-      heads = λ b. header-writes ports s b (kept .ports-are);
+      order = ring-order here;
+      idle = λ b. let i = process-idle s b in let j = ring-idle here in (λ e. j .0 (i .0 e), λ e. i .1 (j .1 e));
+      completed = each-completed s₀ ring calls;
+      completes = λ b. step-completes s b t here;
+      flows = ordered-table cookieOf 256 (s .tables .flows) (journal .in-order .flows-rise) (journal .in-order .flows-fit);
+      groups = ordered-table idOf 128 (s .tables .groups) (journal .in-order .groups-rise) (journal .in-order .groups-fit);
+      replays = unfold replay finish ready finished endsIn in rw (journal .reads);
+      heads = λ b. header-writes ports s b (journal .ports-are);
       unpaid = process-unpaid s;
       unpaid-record = record-unpaid;
-      drains = λ bs b l u. unfold outstanding in drain (length bs) s _ bs b tied refl (sym l) u;
-      credits = even;
+      drains = λ bs b l u. unfold outstanding in drain (length bs) s (ringOf t) bs b here refl (sym l) u;
+      credits = credits;
     }

@@ -17,13 +17,13 @@ use Rattle.rules.specs.declared.Request.{Request}
 use Rattle.rules.specs.declared.Request.the-variants.{Read, Write, Link, Process, Frame, Header}
 use Rattle.rules.proofs.Cases.{by-eq, by-test}
 use Rattle.rules.proofs.Switch.{refused, accepted}
-use Rattle.history.specs.Trace.{Moment, Untroubled, stepAt, seen, final, trace, noted, observe, processes, isHeader, withoutHeaders}
+use Rattle.history.specs.Trace.{Call, NoneAnswered456, stepAt, seen, final, trace, noted, observe, processes, isHeader, withoutHeaders}
 use Rattle.history.specs.Events.{event}
 use Rattle.history.specs.RingHistory.{RingHistory, notesRing}
-use Rattle.history.specs.Ledger.{Ledger, entersEvent, notesLedger}
+use Rattle.history.specs.JournalHistory.{JournalHistory, journalEvent, notesJournal}
 use Rattle.history.proofs.Always.{answer-is, process-accepted, process-idle}
 use Rattle.history.proofs.Slots.{next-is, distance-zero, distance-self, distance-next}
-use Rattle.history.proofs.Tied.{TiedTo, process-busy, process-keeps}
+use Rattle.history.proofs.RingInvariant.{RingInvariantOf, process-busy, process-keeps}
 
 -- a number of a chain that was not given is passed over
 skip : (t : Bool) (n rest : ℕ) → (refuse t n rest ≡ n → ⊥) → refuse t n rest ≡ rest
@@ -41,7 +41,7 @@ process-done s b h3 h4 h5 h6 =
     e3 ∙ (e4 ∙ (e5 ∙ skip (ltb (length (b .buffer)) (length (slotRecord s (b .memory)))) 6 0 (λ e. h6 (e3 ∙ (e4 ∙ (e5 ∙ e))))))
 
 -- and takes one off what is outstanding
-nearer : (s : Switch) (b : Borrowed) (h : RingHistory) → TiedTo (s .registers .ring) h → processRefusal s b ≡ 0
+nearer : (s : Switch) (b : Borrowed) (h : RingHistory) → RingInvariantOf (s .registers .ring) h → processRefusal s b ≡ 0
     → distance (s .registers .ring .size) (s .registers .ring .tail) (s .registers .ring .head)
     ≡ suc (distance (processEffect s b .switch .registers .ring .size) (processEffect s b .switch .registers .ring .tail) (processEffect s b .switch .registers .ring .head))
 unfolding processEffect withRing completeEffect
@@ -52,8 +52,8 @@ nearer s b h t e =
     let hh : r .head < r .size = omega (arith, t .head-in) in
     rw (next-is (r .size) (r .tail) ht) (distance-next (r .size) (r .tail) (r .head) ht hh ne)
 
-pub drain : (n : ℕ) (s : Switch) (h : RingHistory) (bs : List Borrowed) (b : Borrowed) → TiedTo (s .registers .ring) h → length bs ≡ n
-    → distance (s .registers .ring .size) (s .registers .ring .tail) (s .registers .ring .head) ≡ n → Untroubled (trace s (processes bs))
+pub drain : (n : ℕ) (s : Switch) (h : RingHistory) (bs : List Borrowed) (b : Borrowed) → RingInvariantOf (s .registers .ring) h → length bs ≡ n
+    → distance (s .registers .ring .size) (s .registers .ring .tail) (s .registers .ring .head) ≡ n → NoneAnswered456 (trace s (processes bs))
     → step (final s (processes bs)) b Process .answer ≡ 3
 unfolding final trace processes stepAt seen
 drain zero s h [] b t l d u =
@@ -68,7 +68,7 @@ drain (suc n) s h (x ∷ bs) b t l d u =
     omega arith in
     let e : processRefusal s x ≡ 0 = process-done s x busy (λ e. u .0 (a ∙ e)) (λ e. u .1 (a ∙ e)) (λ e. u .2 (a ∙ e)) in
     let p : step s x Process ≡ processEffect s x = process-accepted s x (a ∙ e) in
-    let k : TiedTo (step s x Process .switch .registers .ring) (notesRing h (seen Process (processEffect s x))) = rw p (process-keeps s x h t e) in
+    let k : RingInvariantOf (step s x Process .switch .registers .ring) (notesRing h (seen s x Process (processEffect s x))) = rw p (process-keeps s x h t e) in
     let m : distance (step s x Process .switch .registers .ring .size) (step s x Process .switch .registers .ring .tail) (step s x Process .switch .registers .ring .head) ≡ n =
     rw p (omega (arith, nearer s x h t e)) in
     drain n (step s x Process .switch) _ bs b k (omega arith) m (u .3)
@@ -81,12 +81,12 @@ header-keeps s b =
     (λ e p. rw (accepted s b Header e) (unfold effect headed in refl))
     (λ ne p. rw (refused s b Header ne) (unfold unchanged in refl))
 
-header-unnoted : (l : Ledger) (s : Switch) (b : Borrowed) → noted notesLedger l (seen Header (step s b Header)) ≡ l
-unfolding noted notesLedger entersEvent event seen
+header-unnoted : (l : JournalHistory) (s : Switch) (b : Borrowed) → noted notesJournal l (seen s b Header (step s b Header)) ≡ l
+unfolding noted notesJournal journalEvent event seen
 header-unnoted l s b = by-test (eqb (step s b Header .answer) 0) (λ p. rw p) (λ p. rw p)
 
-skips : (r : Request) (s : Switch) (b : Borrowed) (l : Ledger) → isHeader r ≡ true
-    → (step s b r .switch ≡ s) × (noted notesLedger l (seen r (step s b r)) ≡ l)
+skips : (r : Request) (s : Switch) (b : Borrowed) (l : JournalHistory) → isHeader r ≡ true
+    → (step s b r .switch ≡ s) × (noted notesJournal l (seen s b r (step s b r)) ≡ l)
 unfolding isHeader
 skips (Read offset width) s b l e = absurd (let z : _≡_ {A = ℕ} 0 1 = cc in omega arith)
 skips (Write offset width value) s b l e = absurd (let z : _≡_ {A = ℕ} 0 1 = cc in omega arith)
@@ -96,12 +96,12 @@ skips (Frame port) s b l e = absurd (let z : _≡_ {A = ℕ} 0 1 = cc in omega a
 skips Header s b l e = (header-keeps s b, header-unnoted l s b)
 
 -- where the header call was made, how often, or never, matters neither to the switch nor to the journal
-pub headers-do-not-matter : (s : Switch) (l : Ledger) (ms : List Moment)
-    → (final s (withoutHeaders ms) ≡ final s ms) × (observe notesLedger l (trace s (withoutHeaders ms)) ≡ observe notesLedger l (trace s ms))
+pub headers-do-not-matter : (s : Switch) (l : JournalHistory) (ms : List Call)
+    → (final s (withoutHeaders ms) ≡ final s ms) × (observe notesJournal l (trace s (withoutHeaders ms)) ≡ observe notesJournal l (trace s ms))
 unfolding final trace observe withoutHeaders stepAt noted seen
 headers-do-not-matter s l [] = (refl, refl)
 headers-do-not-matter s l (m ∷ ms) =
     by-test (isHeader (m .request))
     (λ p. let x = skips (m .request) s (m .borrowed) l p in
     rw (p, x .0, x .1) (headers-do-not-matter s l ms))
-    (λ p. rw p (headers-do-not-matter (step s (m .borrowed) (m .request) .switch) (noted notesLedger l (seen (m .request) (step s (m .borrowed) (m .request)))) ms))
+    (λ p. rw p (headers-do-not-matter (step s (m .borrowed) (m .request) .switch) (noted notesJournal l (seen s (m .borrowed) (m .request) (step s (m .borrowed) (m .request)))) ms))

@@ -2,8 +2,10 @@
 pub mod Slots
 pub mod Always
 pub mod Writes
-pub mod Tied
-pub mod Kept
-pub mod Even
+pub mod RingInvariant
+pub mod JournalInvariant
+pub mod CreditInvariant
 pub mod Drains
+pub mod TableOrder
+pub mod Completions
 pub mod Claim

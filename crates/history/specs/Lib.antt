@@ -2,6 +2,8 @@
 pub mod Trace
 pub mod Events
 pub mod RingHistory
-pub mod Ledger
-pub mod Tally
+pub mod JournalHistory
+pub mod CreditHistory
+pub mod Completion
+pub mod TableOrder
 pub mod Claim

@@ -1,9 +1,9 @@
--- The ring history (document 01: the ring book), "fed the calls' arguments, answers and lines".
+-- The ring history (document 01: the ring book): what the accepted calls and the records of process calls say of the ring.
 use Prim.Native.Nat.{ℕ, zero, suc, _+_, _%_}
 use mathlib.Core.List.{List, [], _∷_, _++_}
 use Rattle.rules.specs.Bytes.{leAt}
 use Rattle.rules.specs.Ring.{distance}
-use Rattle.history.specs.Trace.{Seen}
+use Rattle.history.specs.Trace.{Seen, observe}
 use Rattle.history.specs.Events.{Event, event}
 use Rattle.history.specs.Events.Event.{Other, WritesBase, WritesSize, WritesHead, WritesCredits, ResetsRing, ResetsDevice, Processes}
 
@@ -13,7 +13,7 @@ pub record RingHistory : Type 0 where
   pub posted : List ℕ
   pub consumed : List ℕ
 
--- "starts with size and head 0 and empty lists posted and consumed"; "zeroes head and empties both lists"
+-- head 0 and nothing posted or consumed: so it starts, with size 0, and so a write or reset of the ring leaves it
 unfoldable pub emptied : ℕ → RingHistory
 emptied size = record { size = size; head = 0; posted = []; consumed = [] }
 
@@ -22,7 +22,7 @@ unfoldable pub slots : ℕ → ℕ → ℕ → List ℕ
 slots size from zero = []
 slots size from (suc n) = from ∷ slots size ((from + 1) % size) n
 
--- "An accepted HEAD write of v posts head, head + 1 and so on, modulo size, ending before v, none if v is head; then head is v."
+-- an accepted HEAD write: the slots from the old head up to the new one, "none if v is head"
 unfoldable pub posts : RingHistory → ℕ → RingHistory
 posts b v =
     record {
@@ -32,11 +32,15 @@ posts b v =
       consumed = b .consumed;
     }
 
+-- the slot in a record
+unfoldable pub slotIn : List ℕ → ℕ
+slotIn written = leAt 2 written 4
+
 unfoldable pub consumes : RingHistory → ℕ → RingHistory
 consumes b slot = record { size = b .size; head = b .head; posted = b .posted; consumed = b .consumed ++ (slot ∷ []) }
 
--- "An accepted write of BASE_ADDR or SIZE, or of CTRL or CONTROL with bit 0 set, zeroes head and empties both lists; SIZE's sets size,
--- a reset zeroes it." "A work call answered 0 consumes the slot in its line"
+-- BASE_ADDR and SIZE empty the ring, and SIZE sets its size; a reset of the ring or the device zeroes it all; a process call consumes
+-- the slot in its record
 unfoldable pub notesEvent : RingHistory → List ℕ → Event → RingHistory
 notesEvent b written Other = b
 notesEvent b written WritesBase = emptied (b .size)
@@ -45,7 +49,11 @@ notesEvent b written (WritesHead v) = posts b v
 notesEvent b written (WritesCredits n) = b
 notesEvent b written ResetsRing = emptied 0
 notesEvent b written ResetsDevice = emptied 0
-notesEvent b written Processes = consumes b (leAt 2 written 4)
+notesEvent b written Processes = consumes b (slotIn written)
 
 unfoldable pub notesRing : RingHistory → Seen → RingHistory
 notesRing b x = notesEvent b (x .written) (event (x .request))
+
+-- of all that was seen
+unfoldable pub ringOf : List Seen → RingHistory
+ringOf t = observe notesRing (emptied 0) t

@@ -11,32 +11,44 @@ use Rattle.rules.specs.declared.Request.{Request}
 use Rattle.rules.specs.declared.Request.the-variants.{Read, Write, Link, Process, Frame, Header}
 
 -- A call with its arguments, and what guest memory, frame, buffer and list hold when it is made
-pub record Moment : Type 0 where
+pub record Call : Type 0 where
   pub request : Request
   pub borrowed : Borrowed
 
-unfoldable pub stepAt : Switch → Moment → Result
+unfoldable pub stepAt : Switch → Call → Result
 stepAt s m = step s (m .borrowed) (m .request)
 
--- All that an observer sees of a call: its arguments, its answer, the completion that it wrote (0 for none), and the bytes that it
--- wrote into the buffer
+-- All that an observer sees of a call: its arguments, its answer, the completion that it wrote (0 for none), the bytes that it wrote
+-- into the buffer, BASE_ADDR as it stood when the call was made, and guest memory before and after it
 pub record Seen : Type 0 where
   pub request : Request
   pub answer : ℕ
   pub completed : ℕ
   pub written : List ℕ
+  pub base : ℕ
+  pub memory : List ℕ
+  pub memoryAfter : List ℕ
 
-unfoldable pub seen : Request → Result → Seen
-seen r x = record { request = r; answer = x .answer; completed = x .completed; written = take (x .length) (x .buffer) }
+unfoldable pub seen : Switch → Borrowed → Request → Result → Seen
+seen s b r x =
+    record {
+      request = r;
+      answer = x .answer;
+      completed = x .completed;
+      written = take (x .length) (x .buffer);
+      base = s .registers .ring .«base_addr»;
+      memory = b .memory;
+      memoryAfter = x .memory;
+    }
 
 -- the switch after a list of calls, and what was seen of them
-unfoldable pub final : Switch → List Moment → Switch
+unfoldable pub final : Switch → List Call → Switch
 final s [] = s
 final s (m ∷ ms) = final (stepAt s m .switch) ms
 
-unfoldable pub trace : Switch → List Moment → List Seen
+unfoldable pub trace : Switch → List Call → List Seen
 trace s [] = []
-trace s (m ∷ ms) = seen (m .request) (stepAt s m) ∷ trace (stepAt s m .switch) ms
+trace s (m ∷ ms) = seen s (m .borrowed) (m .request) (stepAt s m) ∷ trace (stepAt s m .switch) ms
 
 -- What an observer has written down after a list of calls. "Refused and other calls change nothing."
 module _ {B : Type 0} (note : B → Seen → B) where
@@ -48,14 +60,14 @@ module _ {B : Type 0} (note : B → Seen → B) where
   observe b (x ∷ xs) = observe (noted b x) xs
 
 -- process calls and no other, each with what it borrows
-unfoldable pub processes : List Borrowed → List Moment
+unfoldable pub processes : List Borrowed → List Call
 processes [] = []
 processes (b ∷ bs) = record { request = Process; borrowed = b } ∷ processes bs
 
 -- no call answered 4, 5 or 6
-abbrev pub Untroubled : List Seen → Type 0
-Untroubled [] = Unit {0}
-Untroubled (x ∷ xs) = (x .answer ≡ 4 → ⊥) × (x .answer ≡ 5 → ⊥) × (x .answer ≡ 6 → ⊥) × Untroubled xs
+abbrev pub NoneAnswered456 : List Seen → Type 0
+NoneAnswered456 [] = Unit {0}
+NoneAnswered456 (x ∷ xs) = (x .answer ≡ 4 → ⊥) × (x .answer ≡ 5 → ⊥) × (x .answer ≡ 6 → ⊥) × NoneAnswered456 xs
 
 -- the same calls without the header calls
 unfoldable pub isHeader : Request → Bool
@@ -66,6 +78,6 @@ isHeader Process = false
 isHeader (Frame port) = false
 isHeader Header = true
 
-unfoldable pub withoutHeaders : List Moment → List Moment
+unfoldable pub withoutHeaders : List Call → List Call
 withoutHeaders [] = []
 withoutHeaders (m ∷ ms) = choose (isHeader (m .request)) (withoutHeaders ms) (m ∷ withoutHeaders ms)

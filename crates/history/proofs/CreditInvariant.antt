@@ -1,4 +1,4 @@
--- CREDITS stays even with what was consumed and returned.
+-- CREDITS and the credit history say the same, call by call: a process call adds one, an accepted write takes off what it returns.
 -- Assumes nothing.
 use Prim.Native.Nat.{ℕ, _+_}
 use mathlib.Core.Path.{_≡_}
@@ -12,15 +12,15 @@ use Rattle.rules.specs.declared.Request.the-variants.{Read, Write, Link, Proces
 use Rattle.history.specs.Trace.{seen}
 use Rattle.history.specs.Events.{Event, event, writeEvent}
 use Rattle.history.specs.Events.Event.{Other, WritesBase, WritesSize, WritesHead, WritesCredits, ResetsRing, ResetsDevice, Processes}
-use Rattle.history.specs.Tally.{Tally, noTally, tallies, notesTally}
+use Rattle.history.specs.CreditHistory.{CreditHistory, noCredits, creditEvent, notesCredits}
 use Rattle.history.proofs.Writes.{Does, write-does}
 
-abbrev pub Even : ℕ → Tally → Type 0
-Even credits t = credits + t .returned ≡ t .consumed
+abbrev pub CreditInvariant : ℕ → CreditHistory → Type 0
+CreditInvariant credits t = credits + t .returned ≡ t .consumed
 
-event-keeps : (d : Registers) (w : Written) (t : Tally) (e : Event) → Even (d .ring .credits) t → Does d w e
-    → Even (w .registers .ring .credits) (tallies t e)
-unfolding tallies noTally
+event-keeps : (d : Registers) (w : Written) (t : CreditHistory) (e : Event) → CreditInvariant (d .ring .credits) t → Does d w e
+    → CreditInvariant (w .registers .ring .credits) (creditEvent t e)
+unfolding creditEvent noCredits
 event-keeps d w t Other h x = rw (x .credits-is) h
 event-keeps d w t WritesBase h x = rw (x .credits-is) h
 event-keeps d w t (WritesSize v) h x = rw (x .0 .credits-is) h
@@ -30,15 +30,15 @@ event-keeps d w t ResetsRing h x = rw (x .credits-is)
 event-keeps d w t ResetsDevice h x = rw (x .credits-is)
 event-keeps d w t Processes h x = absurd x
 
-pub credits-keep : (s : Switch) (t : Tally) (m : Borrowed) (r : Request) → Even (s .registers .ring .credits) t → refusal s m r ≡ 0
-    → Even (effect s m r .switch .registers .ring .credits) (notesTally t (seen r (effect s m r)))
+pub credits-keep : (s : Switch) (t : CreditHistory) (m : Borrowed) (r : Request) → CreditInvariant (s .registers .ring .credits) t → refusal s m r ≡ 0
+    → CreditInvariant (effect s m r .switch .registers .ring .credits) (notesCredits t (seen s m r (effect s m r)))
 unfolding refusal effect
-credits-keep s t m (Read offset width) h e = unfold notesTally tallies event seen readEffect in h
+credits-keep s t m (Read offset width) h e = unfold notesCredits creditEvent event seen readEffect in h
 credits-keep s t m (Write offset width v) h e =
-    unfold notesTally event seen writeEffect in
+    unfold notesCredits event seen writeEffect in
     event-keeps (s .registers) (write (s .registers) offset width v) t (writeEvent (access offset width) (taken width v)) h
     (write-does (s .registers) offset width v e)
-credits-keep s t m (Link port up) h e = unfold notesTally tallies event seen linked withLinks in h
-credits-keep s t m Process h e = unfold notesTally tallies event seen processEffect withRing completeEffect in omega arith
-credits-keep s t m (Frame port) h e = unfold notesTally tallies event seen framed in h
-credits-keep s t m Header h e = unfold notesTally tallies event seen headed in h
+credits-keep s t m (Link port up) h e = unfold notesCredits creditEvent event seen linked withLinks in h
+credits-keep s t m Process h e = unfold notesCredits creditEvent event seen processEffect withRing completeEffect in omega arith
+credits-keep s t m (Frame port) h e = unfold notesCredits creditEvent event seen framed in h
+credits-keep s t m Header h e = unfold notesCredits creditEvent event seen headed in h
