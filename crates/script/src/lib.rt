@@ -1,13 +1,8 @@
 // A script of calls on one device and its guest memory: a call a line on standard input, its outcome a line on standard output. A
 // line that is no call, or that cannot be carried out, is reported on standard error, and the script goes on.
 
-mod calls;
-mod hex;
-mod lines;
-mod print;
-mod words;
-
 use lines::Reader;
+use lines::print;
 use rules::Device;
 
 // The guest memory's size, and the device once there is one.
@@ -24,34 +19,23 @@ struct Script {
     more: bool,
 }
 
-// memory N
-fn run_memory(p: Console, s: &[u8], line: u64, memory: &mut [u8]) -> Console {
-    let n = words::arguments(s, 2);
-    if !n.good {
-        print::complain(line, b"expected memory N");
-        return p;
-    }
-    if 1048576 < n.a {
-        print::complain(line, b"N is at most 1048576");
-        return p;
-    }
-    let size = calls::within(n.a as usize, memory);
-    calls::clear(&mut memory[0..size]);
-    let mut q = p;
-    q.memory = size;
-    q
-}
-
 // fresh PORTS SWITCH_ID. A refused one leaves the device that was there.
-fn run_fresh(p: Console, s: &[u8], line: u64) -> Console {
-    let n = words::arguments(s, 3);
+fn run_fresh(
+    p: Console,
+    s: &[u8],
+    line: u64,
+    flows: &mut [[u32; 16]; 256],
+    heads: &mut [[u32; 3]; 128],
+    members: &mut [[u16; 62]; 128],
+) -> Console {
+    let n = text::arguments(s, 3);
     if !n.good {
         print::complain(line, b"expected fresh PORTS SWITCH_ID");
         return p;
     }
-    let r = device::fresh(n.a, n.b);
+    let r = device::fresh(n.a, n.b, flows, heads, members);
     let answer = r.answer;
-    print::answer(answer);
+    print::answer(answers::number(answer));
     print::end();
     if answers::number(answer) != 0 {
         return p;
@@ -63,7 +47,49 @@ fn run_fresh(p: Console, s: &[u8], line: u64) -> Console {
     q
 }
 
-// One line. Empty ones and those that begin with # are passed over.
+// Empty lines and those that begin with #.
+fn passed_over(s: &[u8]) -> bool {
+    if s.len() == 0 {
+        return true;
+    }
+    s[0] == b'#'
+}
+
+// A line that calls the device that there is.
+fn run_call(
+    p: Console,
+    s: &[u8],
+    line: u64,
+    memory: &mut [u8],
+    buffer: &mut [u8],
+    list: &mut [u16],
+    flows: &mut [[u32; 16]; 256],
+    heads: &mut [[u32; 3]; 128],
+    members: &mut [[u16; 62]; 128],
+) -> Console {
+    if !p.made {
+        print::complain(line, b"no device");
+        return p;
+    }
+    let d = p.device;
+    let size = lines::least(p.memory, memory.len());
+    let after = calls::call(
+        d,
+        s,
+        line,
+        &mut memory[0..size],
+        buffer,
+        list,
+        flows,
+        heads,
+        members,
+    );
+    let mut q = p;
+    q.device = after;
+    q
+}
+
+// One line.
 fn run_line(
     p: Console,
     s: &[u8],
@@ -71,33 +97,20 @@ fn run_line(
     memory: &mut [u8],
     buffer: &mut [u8],
     list: &mut [u16],
+    flows: &mut [[u32; 16]; 256],
+    heads: &mut [[u32; 3]; 128],
+    members: &mut [[u16; 62]; 128],
 ) -> Console {
-    if s.len() == 0 {
-        return p;
+    let g = guest::call(p.memory, s, line, memory);
+    if g.taken {
+        let mut q = p;
+        q.memory = g.size;
+        return q;
     }
-    if s[0] == b'#' {
-        return p;
+    if check::same(text::word(s, 0), b"fresh") {
+        return run_fresh(p, s, line, flows, heads, members);
     }
-    let name = text::word(s, 0);
-    if check::same(name, b"memory") {
-        return run_memory(p, s, line, memory);
-    }
-    if check::same(name, b"fresh") {
-        return run_fresh(p, s, line);
-    }
-    let size = calls::within(p.memory, memory);
-    if calls::on_memory(s, line, &mut memory[0..size]) {
-        return p;
-    }
-    if !p.made {
-        print::complain(line, b"no device");
-        return p;
-    }
-    let d = p.device;
-    let after = calls::on_device(d, s, line, &mut memory[0..size], buffer, list);
-    let mut q = p;
-    q.device = after;
-    q
+    run_call(p, s, line, memory, buffer, list, flows, heads, members)
 }
 
 // The line that a reader has taken.
@@ -108,13 +121,20 @@ fn run_taken(
     memory: &mut [u8],
     buffer: &mut [u8],
     list: &mut [u16],
+    flows: &mut [[u32; 16]; 256],
+    heads: &mut [[u32; 3]; 128],
+    members: &mut [[u16; 62]; 128],
 ) -> Console {
     if r.long {
         print::complain(r.lines, b"longer than 65535 bytes");
         return p;
     }
-    let used = calls::within(r.used, line);
-    run_line(p, &line[0..used], r.lines, memory, buffer, list)
+    let used = lines::least(r.used, line.len());
+    let s = &line[0..used];
+    if passed_over(s) {
+        return p;
+    }
+    run_line(p, s, r.lines, memory, buffer, list, flows, heads, members)
 }
 
 // One line taken and run.
@@ -125,11 +145,14 @@ fn turn(
     memory: &mut [u8; 1048576],
     buffer: &mut [u8; 65536],
     list: &mut [u16; 512],
+    flows: &mut [[u32; 16]; 256],
+    heads: &mut [[u32; 3]; 128],
+    members: &mut [[u16; 62]; 128],
 ) -> Script {
     let before = t.reader;
     let reader = lines::take(before, input, line);
     let p = t.console;
-    let console = run_taken(p, reader, line, memory, buffer, list);
+    let console = run_taken(p, reader, line, memory, buffer, list, flows, heads, members);
     Script {
         console: console,
         reader: reader,
@@ -137,8 +160,12 @@ fn turn(
     }
 }
 
-fn begin() -> Script {
-    let none = device::fresh(0, 0);
+fn begin(
+    flows: &mut [[u32; 16]; 256],
+    heads: &mut [[u32; 3]; 128],
+    members: &mut [[u16; 62]; 128],
+) -> Script {
+    let none = device::fresh(0, 0, flows, heads, members);
     let d = none.device;
     let reader = lines::start();
     Script {
@@ -155,7 +182,10 @@ fn begin() -> Script {
 // Runs the script on standard input to its end. A proved loop ends, and nothing says that the input does: the turns count down from
 // a number that no run uses up.
 pub fn run() {
-    let mut t = begin();
+    let mut flows = [[0u32; 16]; 256];
+    let mut heads = [[0u32; 3]; 128];
+    let mut members = [[0u16; 62]; 128];
+    let mut t = begin(&mut flows, &mut heads, &mut members);
     let mut input = [0u8; 65536];
     let mut line = [0u8; 65535];
     let mut memory = [0u8; 1048576];
@@ -170,6 +200,9 @@ pub fn run() {
             &mut memory,
             &mut buffer,
             &mut list,
+            &mut flows,
+            &mut heads,
+            &mut members,
         );
         turns -= 1;
     }

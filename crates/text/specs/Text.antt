@@ -1,11 +1,12 @@
 -- One line of a script: its words, and the number that a word stands for.
 use Prim.Native.Nat.{ℕ, zero, suc, _+_, _-_, _*_, _^_}
-use mathlib.Core.Bool.{Bool, true, false, _&&_}
+use mathlib.Core.Bool.{Bool, true, false, _&&_, _||_}
 use mathlib.Core.List.{List, [], _∷_}
 use lib.ListN.{length, getD, take, drop}
 use lib.Dec.{ltb, eqb}
 use Rattle.text.specs.declared.Numeral.{Numeral}
 use Rattle.text.specs.declared.Numeral.the-variants.{Malformed, Number}
+use Rattle.text.specs.declared.Numbers.{Numbers}
 
 abbrev pub pick : {A : Type 0} → Bool → A → A → A
 pick true a b = a
@@ -64,3 +65,27 @@ isHex s = ltb 2 (length s) && eqb (getD s 0 0) 48 && eqb (getD s 1 0) 120
 -- the number of a word; an empty one stands for none
 unfoldable pub numberOf : List ℕ → Numeral
 numberOf s = pick (eqb (length s) 0) Malformed (pick (isHex s) (numeral 16 (drop 2 s)) (numeral 10 s))
+
+-- ---- The numbers of a line
+
+unfoldable pub argumentOf : ℕ → List ℕ → Numeral
+argumentOf k s = numberOf (wordAt k s)
+
+unfoldable pub isNumber : Numeral → Bool
+isNumber Malformed = false
+isNumber (Number n) = true
+
+-- the number that is meant, 0 for none
+unfoldable pub valueOf : Numeral → ℕ
+valueOf Malformed = 0
+valueOf (Number n) = n
+
+-- what follows the name of a call, on a line of two to four words
+unfoldable pub argumentsOf : List ℕ → ℕ → Numbers
+argumentsOf s words =
+    record {
+      good = eqb (wordCount s) words && isNumber (argumentOf 1 s) && (ltb words 3 || isNumber (argumentOf 2 s)) && (ltb words 4 || isNumber (argumentOf 3 s));
+      a = valueOf (argumentOf 1 s);
+      b = valueOf (argumentOf 2 s);
+      c = valueOf (argumentOf 3 s);
+    }

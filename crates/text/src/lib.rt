@@ -2,7 +2,7 @@
 ghost use mathlib.Core.Path.{_≡_};
 ghost use Prim.Native.Nat.{_+_, _<_, _≤_};
 ghost use lib.ListN.{length, drop};
-ghost use Rattle.text.specs.Text.{wordLength, wordAt, wordCount, digitOf, numeral, isHex, numberOf};
+ghost use Rattle.text.specs.Text.{wordLength, wordAt, wordCount, digitOf, numeral, isHex, numberOf, argumentOf, isNumber, valueOf, argumentsOf};
 
 // What a word says as a number of 64 bits.
 pub enum Numeral {
@@ -128,4 +128,53 @@ pub fn number(s: &[u8]) -> Numeral
         return digits(&s[2..], 16);
     }
     digits(s, 10)
+}
+
+// The numbers that follow the name of a call: `good` if there are as many as expected and each is well formed.
+pub struct Numbers {
+    pub good: bool,
+    pub a: u64,
+    pub b: u64,
+    pub c: u64,
+}
+
+// A word as a number.
+pub fn argument(s: &[u8], k: usize) -> Numeral
+    ensures { λ r. ⌜ r ≡ argumentOf k (now (s .entry)) ⌝ }
+{
+    number(word(s, k))
+}
+
+fn is_number(n: Numeral) -> bool
+    ensures { λ r. ⌜ r ≡ isNumber n ⌝ }
+{
+    match n {
+        Numeral::Malformed => false,
+        Numeral::Number(_) => true,
+    }
+}
+
+fn value(n: Numeral) -> u64
+    ensures { λ r. ⌜ r ≡ valueOf n ⌝ }
+{
+    match n {
+        Numeral::Malformed => 0,
+        Numeral::Number(v) => v,
+    }
+}
+
+// Of a line with so many words, two to four of them with the name.
+pub fn arguments(s: &[u8], words: usize) -> Numbers
+    ensures { λ r. ⌜ r ≡ argumentsOf (now (s .entry)) words ⌝ }
+{
+    let a = argument(s, 1);
+    let b = argument(s, 2);
+    let c = argument(s, 3);
+    let first = (count(s) == words) & is_number(a);
+    Numbers {
+        good: first & ((words < 3) | is_number(b)) & ((words < 4) | is_number(c)),
+        a: value(a),
+        b: value(b),
+        c: value(c),
+    }
 }

@@ -15,26 +15,11 @@ Inv-loop s base v₀ i₀ v i = (allDigits base s ≡ allDigits base (drop i s))
 abbrev μ-loop : tie.MeasureT-loop
 μ-loop s base v₀ i₀ v i = length s - i
 
-loop-holds : tie.Need-loop-holds Inv-loop μ-loop
-loop-holds c = search needs
-
-shared-slice-read-digit : tie.Need-shared-slice-read-digit Inv-loop μ-loop
-shared-slice-read-digit c = search needs
-
-digit-requires : tie.Need-digit-requires Inv-loop μ-loop
-digit-requires c κs = search needs
-
 returns : tie.Need-returns Inv-loop μ-loop
 returns c =
     let l = c .before .before .before .before in
     let a = l .before .before .args in
     not-digits (a .base) (now (a .s)) (l .loop .inv .0 ∙ no-digit (a .base) (l .loop .v) (l .loop .i) (now (a .s)) (c .before .before .before .loop-test .taken) (rw (← c .before .digit .ensures) (c .if1 .taken)))
-
-sub-if2 : tie.Need-sub-if2 Inv-loop μ-loop
-sub-if2 c = search needs
-
-div-if2 : tie.Need-div-if2 Inv-loop μ-loop
-div-if2 c = search needs
 
 returns-2 : tie.Need-returns-2 Inv-loop μ-loop
 returns-2 c =
@@ -56,12 +41,6 @@ mul-v c = omega (arith, fits c)
 
 add-v : tie.Need-add-v Inv-loop μ-loop
 add-v c = omega (arith, fits c)
-
-add-i : tie.Need-add-i Inv-loop μ-loop
-add-i c = search needs
-
-loop-less : tie.Need-loop-less Inv-loop μ-loop
-loop-less c = search needs
 
 loop-again : tie.Need-loop-again Inv-loop μ-loop
 loop-again c =
@@ -86,16 +65,16 @@ digits-spec =
     (tie.spec
     Inv-loop
     μ-loop
-    loop-holds
-    shared-slice-read-digit
-    digit-requires
+    (λ c. search needs)
+    (λ c. search needs)
+    (λ c κs. search needs)
     returns
-    sub-if2
-    div-if2
+    (λ c. search needs)
+    (λ c. search needs)
     returns-2
     mul-v
     add-v
-    add-i
-    loop-less
+    (λ c. search needs)
+    (λ c. search needs)
     loop-again
     returns-3)

@@ -9,12 +9,6 @@ use borrow.Author.Needs.{needs}
 use Rattle.text.proofs.next_word.Statement.{statement}
 use Rattle.text.proofs.next_word.Tie as tie
 
-word-end-requires : tie.Need-word-end-requires
-word-end-requires c κs = search needs
-
-add-result : tie.Need-add-result
-add-result c = search needs
-
 returns : tie.Need-returns
 returns c = (rw (c .before .word-end .ensures), omega arith)
 
@@ -26,4 +20,4 @@ returns-2 c =
     (drop-length s ∙ sym (drop-of-length-le s h), omega arith)
 
 pub next-word-spec : {M : Type 1} → statement M
-next-word-spec = tie.close (tie.spec word-end-requires add-result returns returns-2)
+next-word-spec = tie.close (tie.spec (λ c κs. search needs) (λ c. search needs) returns returns-2)

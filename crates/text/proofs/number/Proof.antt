@@ -15,9 +15,6 @@ returns : tie.Need-returns
 unfolding numberOf
 returns c = simp (eq-eqb _ _ (c .if1 .taken))
 
-is-hex-requires : tie.Need-is-hex-requires
-is-hex-requires c κs = search needs
-
 long : (c : tie.Then2) → 2 ≤ length (now (c .before .before .before .before .args .s))
 long c = omega (arith, hex-long _ (sym (c .before .is-hex .ensures) ∙ c .if2 .taken))
 
@@ -27,20 +24,11 @@ sub-digits c = long c
 part-digits-start : tie.Need-part-digits-start
 part-digits-start c = long c
 
-part-digits-end : tie.Need-part-digits-end
-part-digits-end c = search needs
-
-digits-requires : tie.Need-digits-requires
-digits-requires c κs = search needs
-
 returns-2 : tie.Need-returns-2
 unfolding numberOf
 returns-2 c =
     let t = c .before .before in
     simp (ne-eqb _ _ (t .before .before .if1 .left), ← t .before .is-hex .ensures, t .if2 .taken) (c .digits .ensures ∙ rw to-end)
-
-digits-requires-2 : tie.Need-digits-requires-2
-digits-requires-2 c κs = search needs
 
 returns-3 : tie.Need-returns-3
 unfolding numberOf
@@ -51,11 +39,11 @@ number-spec =
     tie.close
     (tie.spec
     returns
-    is-hex-requires
+    (λ c κs. search needs)
     sub-digits
     part-digits-start
-    part-digits-end
-    digits-requires
+    (λ c. search needs)
+    (λ c κs. search needs)
     returns-2
-    digits-requires-2
+    (λ c κs. search needs)
     returns-3)

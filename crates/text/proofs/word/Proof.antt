@@ -18,23 +18,11 @@ abbrev μ-loop : tie.MeasureT-loop
 loop-holds : tie.Need-loop-holds Inv-loop μ-loop
 loop-holds c = (search needs, search needs, word-starts _ _)
 
-next-word-requires : tie.Need-next-word-requires Inv-loop μ-loop
-next-word-requires c κs = search needs
-
-add-i : tie.Need-add-i Inv-loop μ-loop
-add-i c = search needs
-
-loop-less : tie.Need-loop-less Inv-loop μ-loop
-loop-less c = search needs
-
 loop-again : tie.Need-loop-again Inv-loop μ-loop
 loop-again c =
     let l = c .before .before in
     let a = l .before .before .args in
     (search needs, c .next-word .ensures .1, l .loop .inv .2 ∙ word-next (a .k) (l .loop .i) (l .loop .at) (c .next-word .result) (now (a .s)) (c .before .loop-test .taken) (c .next-word .ensures .0))
-
-word-end-requires : tie.Need-word-end-requires Inv-loop μ-loop
-word-end-requires c κs = search needs
 
 inside : (c : tie.After-word-end Inv-loop μ-loop) → c .word-end .result ≤ length (now (c .before .before .before .before .args .s))
 inside c =
@@ -63,11 +51,11 @@ word-spec =
     Inv-loop
     μ-loop
     loop-holds
-    next-word-requires
-    add-i
-    loop-less
+    (λ c κs. search needs)
+    (λ c. search needs)
+    (λ c. search needs)
     loop-again
-    word-end-requires
+    (λ c κs. search needs)
     sub-result
     part-result-start
     part-result-end

@@ -1,0 +1,96 @@
+// The lines of standard input, one at a time, and those of an outcome (`print`).
+
+pub mod print;
+
+use libc::STDIN_FILENO;
+ghost use Prim.Native.Nat.{_≤_};
+
+// How far the bytes that were read are used up, and how many they are; the number of the line under way, its bytes so far, whether
+// it is too long and whether it is whole; whether there may be more to read.
+pub struct Reader {
+    pub at: usize,
+    pub got: usize,
+    pub lines: u64,
+    pub used: usize,
+    pub long: bool,
+    pub whole: bool,
+    pub more: bool,
+}
+
+pub fn start() -> Reader {
+    Reader {
+        at: 0,
+        got: 0,
+        lines: 0,
+        used: 0,
+        long: false,
+        whole: false,
+        more: true,
+    }
+}
+
+// Bytes of the input up to the line's end, or to the end of what was read. What does not fit makes the line too long.
+fn copy(r: Reader, input: &[u8], line: &mut [u8]) -> Reader {
+    let mut q = r;
+    let end = r.got;
+    let mut at = r.at;
+    let mut used = r.used;
+    while at < end && at < input.len() {
+        let b = input[at];
+        at += 1;
+        if b == b'\n' {
+            q.whole = true;
+            break;
+        }
+        if used < line.len() {
+            line[used] = b;
+            used += 1;
+        } else {
+            q.long = true;
+        }
+    }
+    q.at = at;
+    q.used = used;
+    q
+}
+
+fn refill(r: Reader, input: &mut [u8]) -> Reader {
+    let mut q = r;
+    let got = libc::read(STDIN_FILENO, input);
+    if got <= 0 {
+        q.more = false;
+        return q;
+    }
+    q.at = 0;
+    q.got = io::count(got, input);
+    q
+}
+
+fn step(r: Reader, input: &mut [u8], line: &mut [u8]) -> Reader {
+    if r.at < r.got {
+        return copy(r, input, line);
+    }
+    refill(r, input)
+}
+
+// The next line, without its end. A last one needs no newline; after it stands an empty one.
+pub fn take(r: Reader, input: &mut [u8], line: &mut [u8]) -> Reader {
+    let mut q = r;
+    q.lines = std::num::wrapping_add_u64(r.lines, 1);
+    q.used = 0;
+    q.long = false;
+    q.whole = false;
+    let mut turns = u64::MAX;
+    while turns > 0 && q.more && !q.whole {
+        q = step(q, input, line);
+        turns -= 1;
+    }
+    q
+}
+
+// The smaller of two lengths.
+pub fn least(n: usize, most: usize) -> usize
+    ensures { λ r. ⌜ r ≤ most ⌝ }
+{
+    if n < most { n } else { most }
+}

@@ -1,0 +1,24 @@
+use borrow.Author.Needs.{needs}
+use Rattle.registers_run.proofs.main.Statement.{statement}
+use Rattle.registers_run.proofs.main.Tie as tie
+
+abbrev Inv-loop : tie.InvT-loop
+Inv-loop p₀ input₀ line₀ turns₀ p input line turns = Unit {0}
+
+abbrev μ-loop : tie.MeasureT-loop
+μ-loop p₀ input₀ line₀ turns₀ p input line turns = turns
+
+pub main-spec : {M : Type 1} → statement M
+main-spec =
+    tie.close
+    (tie.spec
+    Inv-loop
+    μ-loop
+    (λ c κs. search needs)
+    (λ c. search needs)
+    (λ c κs. search needs)
+    (λ c. search needs)
+    (λ c. search needs)
+    (λ c. search needs)
+    (λ c. search needs)
+    (λ c. search needs))
