@@ -1,5 +1,6 @@
 /* The console's scripts (docs/CONSOLE.md) through the C interface. Two devices get every call, one by the functions' names and one
- * by rocker_call, and must agree. What the first gives is printed as the console prints it. */
+ * by rocker_call, and must agree in what they give and, now and then and at the end, in every byte. What the first gives is printed as the
+ * console prints it. */
 #include <inttypes.h>
 #include <stdbool.h>
 #include <stdio.h>
@@ -23,15 +24,18 @@ static void same(bool agrees)
     }
 }
 
+/* Every byte, now and then: it takes long. */
+static void same_all(void)
+{
+    same(memcmp(&named, &called, sizeof named) == 0 && memcmp(memory[0], memory[1], size) == 0);
+    same(memcmp(buffer[0], buffer[1], sizeof buffer[0]) == 0 && memcmp(list[0], list[1], sizeof list[0]) == 0);
+}
+
 static uint32_t call(uint64_t kind, uint64_t a, uint64_t b, uint64_t c, size_t frame_length, size_t room, size_t list_length,
                      struct rocker_outcome *o)
 {
-    uint64_t out[ROCKER_OUT + 1] = {9, 9, 9, 9, 9, 9};
-    uint32_t answer = rocker_call(&called, kind, a, b, c, memory[1], size, frame, frame_length, buffer[1], room, list[1],
-                                  list_length, out, ROCKER_OUT + 1);
-    same(out[ROCKER_OUT] == 9);
-    memcpy(o, out, sizeof *o);
-    return answer;
+    memset(o, 9, sizeof *o);
+    return rocker_call(&called, kind, a, b, c, memory[1], size, frame, frame_length, buffer[1], room, list[1], list_length, o);
 }
 
 static bool number(const char *s, uint64_t *n)
@@ -98,7 +102,7 @@ static void set_link(uint64_t port, uint64_t up)
 {
     struct rocker_outcome o;
     uint32_t answer = rocker_link(&named, port, up);
-    same(call(ROCKER_LINK, port, up, 0, 0, 0, 0, &o) == answer);
+    same(call(ROCKER_LINK, port, up, 0, 0, 0, 0, &o) == answer && !o.value && !o.raised && !o.completed && !o.bytes && !o.outputs);
     printf("%" PRIu32 "\n", answer);
 }
 
@@ -107,7 +111,7 @@ static void process(uint64_t room)
     struct rocker_outcome o, p;
     uint32_t answer = rocker_process(&named, memory[0], size, buffer[0], room, &o);
     same(call(ROCKER_PROCESS, 0, 0, 0, 0, room, 0, &p) == answer && memcmp(&o, &p, sizeof o) == 0);
-    same(memcmp(memory[0], memory[1], size) == 0 && memcmp(buffer[0], buffer[1], sizeof buffer[0]) == 0);
+    same(memcmp(buffer[0], buffer[1], o.bytes) == 0);
     printf("%" PRIu32 " %s ", answer, o.raised ? "0" : "-");
     print_bytes(buffer[0], o.bytes);
     putchar('\n');
@@ -118,7 +122,7 @@ static void header(uint64_t room)
     struct rocker_outcome o, p;
     uint32_t answer = rocker_header(&named, buffer[0], room, &o);
     same(call(ROCKER_HEADER, 0, 0, 0, 0, room, 0, &p) == answer && memcmp(&o, &p, sizeof o) == 0);
-    same(memcmp(buffer[0], buffer[1], sizeof buffer[0]) == 0);
+    same(memcmp(buffer[0], buffer[1], o.bytes) == 0);
     printf("%" PRIu32 " ", answer);
     print_bytes(buffer[0], o.bytes);
     putchar('\n');
@@ -129,7 +133,7 @@ static void frame_in(uint64_t port, size_t length, uint64_t room)
     struct rocker_outcome o;
     uint64_t outputs;
     uint32_t answer = rocker_frame(&named, port, frame, length, list[0], room, &outputs);
-    same(call(ROCKER_FRAME, port, 0, 0, length, 0, room, &o) == answer && o.outputs == outputs && memcmp(list[0], list[1], sizeof list[0]) == 0);
+    same(call(ROCKER_FRAME, port, 0, 0, length, 0, room, &o) == answer && o.outputs == outputs && memcmp(list[0], list[1], 6 * outputs) == 0);
     printf("%" PRIu32 " %" PRIu64, answer, outputs);
     for (uint64_t i = 0; i < 3 * outputs; i++)
         printf(" %d", list[0][i]);
@@ -194,6 +198,9 @@ int main(void)
             words[count] = at;
         }
         run(words, count);
+        if (line_number % 256 == 0)
+            same_all();
     }
+    same_all();
     return 0;
 }

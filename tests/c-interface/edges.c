@@ -1,16 +1,5 @@
-/* What the console's scripts do not reach: numbers that ask for nothing, an `out` that is short or long, and the size of a device. */
-#include <stdio.h>
-#include <string.h>
-
-#include "rocker.h"
-
-#define CHECK(test)                                                    \
-    do {                                                               \
-        if (!(test)) {                                                 \
-            printf("edges.c:%d: %s does not hold\n", __LINE__, #test); \
-            return 1;                                                  \
-        }                                                              \
-    } while (0)
+/* What the console's scripts do not reach: numbers that ask for nothing, the bytes around what a call is given, and the size of a device. */
+#include "guest.h"
 
 static struct {
     uint64_t before[8];
@@ -20,11 +9,17 @@ static struct {
 static struct rocker *const d = &held.device;
 static uint8_t memory[64], frame[64], buffer[64], ones[64];
 static uint16_t list[ROCKER_LIST];
+static struct rocker_outcome o;
 
-static uint32_t call(uint64_t kind, uint64_t a, uint64_t b, uint64_t *out, size_t out_length)
+static uint32_t call(uint64_t kind, uint64_t a, uint64_t b)
 {
-    return rocker_call(d, kind, a, b, 0, memory, sizeof memory, frame, sizeof frame, buffer, sizeof buffer, list, ROCKER_LIST, out,
-                       out_length);
+    memset(&o, 9, sizeof o);
+    return rocker_call(d, kind, a, b, 0, memory, sizeof memory, frame, sizeof frame, buffer, sizeof buffer, list, ROCKER_LIST, &o);
+}
+
+static int gives(uint64_t value, uint64_t bytes)
+{
+    return o.value == value && o.raised == 0 && o.completed == 0 && o.bytes == bytes && o.outputs == 0;
 }
 
 static uint64_t reads(uint64_t offset, uint64_t width)
@@ -35,37 +30,60 @@ static uint64_t reads(uint64_t offset, uint64_t width)
 
 int main(void)
 {
-    static const uint64_t zero[ROCKER_OUT], nines[7] = {9, 9, 9, 9, 9, 9, 9};
-    uint64_t out[7], raised;
+    static struct rocker zero, was;
+    uint64_t raised, outputs;
 
-    /* A device of ones (its bools are 1) is written to its last member, whose two bytes stand before two of fill, and not beyond. */
+    /* A device of ones is written from its first to its last byte, and not beyond. */
     memset(ones, 1, sizeof ones);
     memset(&held, 1, sizeof held);
+    was = *d;
     CHECK(rocker_size() == sizeof held.device);
-    CHECK(rocker_fresh(d, 0, 7) == 7 && rocker_fresh(d, 63, 7) == 7 && memcmp(d, ones, sizeof ones) == 0);
+    CHECK(rocker_fresh(d, 0, 0) == 7 && rocker_fresh(d, 63, 0) == 7 && memcmp(d, &was, sizeof was) == 0);
+    CHECK(rocker_fresh(d, ((uint64_t)1 << 32) + 4, 0) == 7 && memcmp(d, &was, sizeof was) == 0);
+    CHECK(rocker_fresh(d, 62, 0) == 0);
+    CHECK(memcmp(d->flows, zero.flows, sizeof zero - sizeof zero.registers) == 0 && d->registers[0] == 0 && d->registers[15] == 0);
     CHECK(rocker_fresh(d, 62, 7) == 0);
-    CHECK(memcmp((uint8_t *)d + sizeof *d - 4, zero, 2) == 0);
     CHECK(memcmp(held.before, ones, sizeof ones) == 0 && memcmp(held.after, ones, sizeof ones) == 0);
 
-    /* Refused for its numbers: 2, and five zeros; with too short an `out`: 9, and `out` as it was; 2 comes first. */
-    memcpy(out, nines, sizeof out);
-    CHECK(call(6, 0, 0, out, 7) == 2 && memcmp(out, zero, sizeof zero) == 0 && out[5] == 9 && out[6] == 9);
-    memcpy(out, nines, sizeof out);
-    CHECK(call(UINT64_MAX, 0, 0, out, 5) == 2 && memcmp(out, zero, sizeof zero) == 0 && out[5] == 9);
-    memcpy(out, nines, sizeof out);
-    CHECK(call(ROCKER_LINK, 1, 2, out, 5) == 2 && call(ROCKER_LINK, 1, 1, out, 4) == 9 && call(6, 0, 0, out, 4) == 2);
-    CHECK(reads(0x310, 8) == 0);
-    CHECK(call(ROCKER_LINK, 63, 1, out, 5) == 7 && call(ROCKER_LINK, 62, 1, out, 5) == 0 && reads(0x310, 8) == (uint64_t)1 << 62);
-    memcpy(out, nines, sizeof out);
-    CHECK(call(ROCKER_READ, 0x320, 8, out, 4) == 9 && memcmp(out, nines, sizeof out) == 0);
-    CHECK(call(ROCKER_READ, 0x320, 8, out, 5) == 0 && out[0] == 7 && memcmp(out + 1, zero, 4 * sizeof *out) == 0 && out[5] == 9);
-    CHECK(call(ROCKER_READ, 0x321, 8, out, 5) == 1 && out[0] == 0);
+    /* Refused for its numbers: 2, and five zeros. */
+    was = *d;
+    CHECK(call(6, 0, 0) == 2 && gives(0, 0));
+    CHECK(call(UINT64_MAX, 0, 0) == 2 && gives(0, 0));
+    CHECK(call((uint64_t)1 << 32, 0x320, 8) == 2 && gives(0, 0));
+    CHECK(call(ROCKER_LINK, 1, 2) == 2 && gives(0, 0));
+    CHECK(call(ROCKER_LINK, 1, ((uint64_t)1 << 32) + 1) == 2 && gives(0, 0));
+    CHECK(call(ROCKER_LINK, 63, 1) == 7 && gives(0, 0));
+    CHECK(call(ROCKER_LINK, ((uint64_t)1 << 32) + 1, 1) == 7 && gives(0, 0));
+    CHECK(call(ROCKER_READ, 0x321, 8) == 1 && gives(0, 0));
+    CHECK(memcmp(d, &was, sizeof was) == 0);
+    CHECK(call(ROCKER_LINK, 62, 1) == 0 && gives(0, 0) && reads(0x310, 8) == (uint64_t)1 << 62);
+    CHECK(call(ROCKER_READ, 0x320, 8) == 0 && gives(7, 0));
+    CHECK(call(ROCKER_HEADER, 0, 0) == 0 && gives(0, 6) && memcmp(buffer, "RKT\1\0\76", 6) == 0);
 
-    /* The same through the wrappers. */
-    CHECK(rocker_link(d, 62, 2) == 2 && rocker_link(d, 62, 0) == 0 && reads(0x310, 8) == 0);
+    /* The same by the calls' names. */
+    was = *d;
+    CHECK(rocker_link(d, 62, 2) == 2 && rocker_link(d, 0, 2) == 2 && rocker_link(d, 62, UINT64_MAX) == 2);
+    CHECK(rocker_link(d, 0, 1) == 7 && rocker_link(d, ((uint64_t)1 << 32) + 1, 1) == 7 && memcmp(d, &was, sizeof was) == 0);
+    CHECK(rocker_link(d, 62, 0) == 0 && reads(0x310, 8) == 0);
     CHECK(rocker_write(d, 0x10, 4, 0x80000001, &raised) == 0 && raised == 0 && reads(0x10, 4) == 2);
     CHECK(rocker_write(d, 0x1008, 4, 3, &raised) == 2 && raised == 0);
     CHECK(rocker_write(d, 0x300, 4, 1, &raised) == 0 && reads(0x10, 4) == 0 && reads(0x320, 8) == 7);
+    memset(&o, 9, sizeof o);
+    CHECK(rocker_header(d, buffer, 5, &o) == 6 && gives(0, 0));
+    memset(&o, 9, sizeof o);
+    CHECK(rocker_header(d, buffer, 6, &o) == 0 && gives(0, 6));
+    memset(&o, 9, sizeof o);
+    CHECK(rocker_process(d, memory, sizeof memory, buffer, sizeof buffer, &o) == 3 && gives(0, 0));
+    outputs = 9;
+    CHECK(rocker_frame(d, 1, frame, 13, list, ROCKER_LIST, &outputs) == 8 && outputs == 0);
+    outputs = 9;
+    CHECK(rocker_frame(d, 1, frame, sizeof frame, list, ROCKER_LIST - 1, &outputs) == 9 && outputs == 0);
     CHECK(memcmp(held.before, ones, sizeof ones) == 0 && memcmp(held.after, ones, sizeof ones) == 0);
+
+    /* All zero is a device without ports. */
+    *d = zero;
+    CHECK(rocker_link(d, 1, 1) == 7 && rocker_frame(d, 1, frame, sizeof frame, list, ROCKER_LIST, &outputs) == 7);
+    CHECK(rocker_process(d, memory, sizeof memory, buffer, sizeof buffer, &o) == 3);
+    CHECK(memcmp(d, &zero, sizeof zero) == 0);
     return 0;
 }

@@ -1,13 +1,10 @@
-//! Links the archives that `rt staticlib` writes of capi and capi_direct.
+//! Links the archive that `rt staticlib capi` writes.
 use std::path::Path;
 
 fn main() {
     let root = Path::new(env!("CARGO_MANIFEST_DIR")).join("../..");
     let folder = root.join("target/staticlib");
     println!("cargo:rustc-link-search=native={}", folder.display());
-    for name in ["capi", "capi_direct"] {
-        let archive = folder.join(format!("lib{name}.a"));
-        println!("cargo:rerun-if-changed={}", archive.display());
-        println!("cargo:rustc-link-lib=static={name}");
-    }
+    println!("cargo:rustc-link-lib=static=capi");
+    println!("cargo:rerun-if-changed={}", folder.join("libcapi.a").display());
 }

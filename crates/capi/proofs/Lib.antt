@@ -1,3 +1,3 @@
-pub mod Numbers
-pub mod Outcomes
-pub mod Behind
+-- Laws of the C interface.
+mod Numbers
+mod Outcomes

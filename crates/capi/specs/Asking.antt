@@ -7,10 +7,9 @@ use Rattle.rules.specs.Switch.{Switch, Borrowed, Result, unlessRefused, step}
 use Rattle.rules.specs.declared.Request.{Request}
 use Rattle.rules.specs.declared.Request.the-variants.{Read, Write, Link, Process, Frame, Header}
 
--- 2 (value not allowed): a kind above 5, or a link state that is neither 0 nor 1. 9 (list too short): an `out` of fewer
--- than five numbers
-unfoldable pub askRefusal : ℕ → ℕ → ℕ → ℕ
-askRefusal kind b numbers = refuse (ltb 5 kind) 2 (refuse (eqb kind 2 && ltb 1 b) 2 (refuse (ltb numbers 5) 9 0))
+-- 2 (value not allowed): a kind above 5, or a link state that is neither 0 nor 1
+unfoldable pub askRefusal : ℕ → ℕ → ℕ
+askRefusal kind b = refuse (ltb 5 kind) 2 (refuse (eqb kind 2 && ltb 1 b) 2 0)
 
 -- the kinds in the order of Request; a link is up at 1
 unfoldable pub requestOf : ℕ → ℕ → ℕ → ℕ → Request
@@ -23,5 +22,5 @@ requestOf kind a b c =
     Header))))
 
 -- a call by its numbers: refused, or the rules' step
-unfoldable pub asked : Switch → Borrowed → ℕ → ℕ → ℕ → ℕ → ℕ → Result
-asked s x kind a b c numbers = unlessRefused s x (askRefusal kind b numbers) (step s x (requestOf kind a b c))
+unfoldable pub asked : Switch → Borrowed → ℕ → ℕ → ℕ → ℕ → Result
+asked s x kind a b c = unlessRefused s x (askRefusal kind b) (step s x (requestOf kind a b c))

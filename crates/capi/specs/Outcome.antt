@@ -1,45 +1,59 @@
--- What the exported functions promise of the device that stands behind the pointer, and of all that is borrowed from the host.
-use Prim.Native.Nat.{ℕ}
+-- What the exported functions promise of the words and places that the host holds, and of all that is borrowed from it.
+use Prim.Native.Nat.{ℕ, _+_}
 use mathlib.Core.Bool.{Bool}
 use mathlib.Core.Path.{_≡_}
 use mathlib.Core.List.{List, [], _∷_}
-use lib.ListN.{length}
-use lib.Dec.{ltb, eqb}
+use mir.Syntax.{w16, w32, w64, tyInt, tyArray}
 use prog.Memory.{size}
-use Rattle.rules.proofs.Device.Laws.{mir}
+use Rattle.rules.specs.Answers.{number}
 use Rattle.rules.specs.Choose.{choose}
-use Rattle.rules.specs.Bytes.{splice}
+use Rattle.rules.specs.Tables.{Arrays, freshArrays}
 use Rattle.rules.specs.Switch.{Result, switchOf, freshRefusal, freshDevice}
+use Rattle.rules.specs.declared.Answer.{Answer}
 use Rattle.rules.specs.declared.Device.{Device}
+use Rattle.words.specs.Words.{deviceIn}
 
 unfoldable pub bitOf : Bool → ℕ
 bitOf b = choose b 1 0
 
--- value, interrupt, completion, bytes in the buffer, outputs in the list; a refused call has 0 in each
+-- the five numbers that a call gives
+abbrev pub five : ℕ → ℕ → ℕ → ℕ → ℕ → List ℕ
+five value raised completed bytes outputs = value ∷ raised ∷ completed ∷ bytes ∷ outputs ∷ []
+
+-- a refused call has 0 in each
 unfoldable pub numbersOf : Result → List ℕ
-numbersOf of = of .value ∷ bitOf (of .interrupt) ∷ of .completed ∷ of .length ∷ of .outputs ∷ []
+numbersOf of = five (of .value) (bitOf (of .interrupt)) (of .completed) (of .length) (of .outputs)
 
--- five numbers at the start of a list, if they fit; the rest is kept
-unfoldable pub outAfter : List ℕ → List ℕ → List ℕ
-outAfter five out = choose (ltb (length out) 5) out (splice 0 five out)
-
--- of a call: its answer, the device before and after it, what memory, buffer and list hold after it, `out` before and after it, and
--- the rules' result of it
-pub record Outcome (answer : ℕ) (d d′ : Device) (memory buffer list out out′ : List ℕ) (of : Result) : Type 0 where
+-- of a call: its answer; the words and the arrays before and after it; the five numbers, 0 where the function does not give one; what
+-- guest memory, buffer and list hold after it; and the rules' result of it
+pub record Outcome (answer : ℕ) (w w′ : List ℕ) (a a′ : Arrays) (out memory buffer list : List ℕ) (of : Result) : Type 0 where
   pub answer-is : answer ≡ of .answer
-  pub out-is : out′ ≡ outAfter (numbersOf of) out
+  pub out-is : out ≡ numbersOf of
   pub memory-is : memory ≡ of .memory
   pub buffer-is : buffer ≡ of .buffer
   pub list-is : list ≡ of .list
-  pub switch-is : switchOf d′ ≡ of .switch
-  -- a refused call leaves every part of the device as it was, free entry slots too
-  pub kept : (of .answer ≡ 0 → ⊥) → d′ ≡ d
+  pub switch-is : switchOf (deviceIn w′) a′ ≡ of .switch
+  -- a refused call leaves every bit of what the host holds
+  pub kept : (of .answer ≡ 0 → ⊥) → (w′ ≡ w) × (a′ ≡ a)
+  -- and so does every call of its tables, unless it completed a command OK
+  pub places-kept : (of .completed ≡ 0x8000 → ⊥) → a′ ≡ a
+
+-- a device stored where its call was done; refused, no word changes
+pub record Stored (answer : ℕ) (given : Answer) (d : Device) (w w′ : List ℕ) : Type 0 where
+  pub answer-is : answer ≡ number given
+  pub done : answer ≡ 0 → deviceIn w′ ≡ d
+  pub kept : (answer ≡ 0 → ⊥) → w′ ≡ w
 
 -- of fresh: refused, it leaves what was there
-pub record FreshOutcome (answer : ℕ) (d d′ : Device) (ports id : ℕ) : Type 0 where
+pub record FreshOutcome (answer : ℕ) (w w′ : List ℕ) (a a′ : Arrays) (ports id : ℕ) : Type 0 where
   pub answer-is : answer ≡ freshRefusal ports
-  pub device-is : d′ ≡ choose (eqb (freshRefusal ports) 0) (freshDevice ports id) d
+  pub made : answer ≡ 0 → (deviceIn w′ ≡ freshDevice ports id) × (a′ ≡ freshArrays)
+  pub kept : (answer ≡ 0 → ⊥) → (w′ ≡ w) × (a′ ≡ a)
 
--- the bytes of a device, as the logic's machine lays out its type
-unfoldable pub deviceSize : ℕ
-deviceSize = size mir
+-- the bytes of the four arrays that a host holds, as the logic's machine lays out their types
+unfoldable pub partsSize : ℕ
+partsSize =
+    size (tyArray (tyInt w64) 16)
+    + size (tyArray (tyArray (tyInt w32) 16) 256)
+    + size (tyArray (tyArray (tyInt w32) 3) 128)
+    + size (tyArray (tyArray (tyInt w16) 62) 128)

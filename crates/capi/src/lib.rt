@@ -1,185 +1,249 @@
-// The C interface: a device that the host holds, behind a pointer, made and called by numbers. Each exported function copies the device,
-// hands it by value to a function of this crate and stores what comes back. No enum crosses the boundary: a request comes in as numbers,
-// and an answer goes out as its number of document 01. include/rocker.h declares the functions for C. The calls that a host makes often
-// have functions of their own, in the crate `capi_direct`.
+// The C interface. A host holds a device as four arrays of numbers: its registers and counts as 16 words (the crate `words`), and the
+// places of its tables. Each exported function takes pointers to those that its call needs; include/rocker.h puts them into one struct.
+// No enum crosses the boundary: a request comes in as numbers, an answer goes out as its number of document 01. No bool is held either, so
+// the functions are right whatever bytes they are handed.
 
 use rules::Answer;
 use rules::Device;
-use rules::Request;
 ghost use mathlib.Core.Path.{_≡_};
-ghost use mathlib.Core.List.{[], _∷_};
-ghost use lib.ListN.{length};
+ghost use mathlib.Core.List.{List};
+ghost use Prim.Native.Nat.{ℕ};
 ghost use Rattle.rules.specs.Answers.{number};
-ghost use Rattle.rules.specs.Switch.{switchOf};
+ghost use Rattle.rules.specs.Tables.{Arrays, arrays};
+ghost use Rattle.rules.specs.Switch.{Borrowed, switchOf, step};
+ghost use Rattle.rules.specs.declared.Request.the-variants.{Read, Write, Process, Frame, Header};
 ghost use Rattle.device.specs.Outcome.{borrowed};
-ghost use Rattle.capi.specs.Asking.{askRefusal, requestOf, asked};
-ghost use Rattle.capi.specs.Outcome.{Outcome, FreshOutcome, outAfter, bitOf, deviceSize};
-
-// What a call leaves: the number of its answer, and the device after it.
-pub struct Performed {
-    pub answer: u32,
-    pub device: Device,
-}
+ghost use Rattle.words.specs.Words.{deviceIn};
+ghost use Rattle.capi.specs.Asking.{asked};
+ghost use Rattle.capi.specs.Outcome.{Outcome, Stored, FreshOutcome, five, bitOf, partsSize};
 
 // ---- Numbers in and out
 
-// Why the numbers ask for nothing: 2 for a kind or a link state that does not exist, 9 for an `out` that is too short; else 0.
-fn refusal(kind: u64, b: u64, numbers: usize) -> u32
-    ensures { λ r. ⌜ r ≡ askRefusal kind b numbers ⌝ }
-{
-    if 5 < kind {
-        return 2;
-    }
-    if (kind == 2) & (1 < b) {
-        return 2;
-    }
-    if numbers < 5 {
-        return 9;
-    }
-    0
-}
-
-// The request that the numbers stand for, where they are not refused.
-fn request(kind: u64, a: u64, b: u64, c: u64) -> Request
-    ensures { λ r. ⌜ r ≡ requestOf kind a b c ⌝ }
-{
-    if kind == 0 {
-        return Request::Read {
-            offset: a,
-            width: b,
-        };
-    }
-    if kind == 1 {
-        return Request::Write {
-            offset: a,
-            width: b,
-            value: c,
-        };
-    }
-    if kind == 2 {
-        return Request::Link {
-            port: a,
-            up: b == 1,
-        };
-    }
-    if kind == 3 {
-        return Request::Process;
-    }
-    if kind == 4 {
-        return Request::Frame { port: a };
-    }
-    Request::Header
-}
-
-pub fn answer_of(a: Answer) -> u32
+fn answer_of(a: Answer) -> u32
     ensures { λ r. ⌜ r ≡ number a ⌝ }
 {
     answers::number(a) as u32
 }
 
-pub fn bit_of(b: bool) -> u64
+fn bit_of(b: bool) -> u64
     ensures { λ r. ⌜ r ≡ bitOf b ⌝ }
 {
     if b { 1 } else { 0 }
 }
 
-// The five numbers of an outcome, to the start of `out` if they fit.
-fn report(out: &mut [u64], value: u64, interrupt: u64, completed: u64, bytes: u64, outputs: u64)
-    ensures { λ r. ⌜ now (out .exit) ≡ outAfter (value ∷ interrupt ∷ completed ∷ bytes ∷ outputs ∷ []) (now (out .entry)) ⌝ }
+// The end of a call: the device goes back into the words if the call was done. A refused call leaves them, bits without meaning too.
+fn store(registers: &mut [u64; 16], answer: Answer, after: Device) -> u32
+    ensures { λ r. ⌜ Stored r answer after (now (registers .entry)) (now (registers .exit)) ⌝ }
 {
-    if out.len() < 5 {
-        return;
-    }
-    out[0] = value;
-    out[1] = interrupt;
-    out[2] = completed;
-    out[3] = bytes;
-    out[4] = outputs;
-}
-
-// ---- By value
-
-// Any call.
-fn perform(
-    d: Device,
-    kind: u64,
-    a: u64,
-    b: u64,
-    c: u64,
-    memory: &mut [u8],
-    frame: &[u8],
-    buffer: &mut [u8],
-    list: &mut [u16],
-    out: &mut [u64],
-) -> Performed
-    ensures { λ r. ⌜ Outcome (r .answer) d (r .device) (now (memory .exit)) (now (buffer .exit)) (now (list .exit)) (now (out .entry)) (now (out .exit)) (asked (switchOf d) (borrowed (now (memory .entry)) (now (frame .entry)) (now (buffer .entry)) (now (list .entry))) kind a b c (length (now (out .entry)))) ⌝ }
-{
-    let refused = refusal(kind, b, out.len());
-    if refused != 0 {
-        report(out, 0, 0, 0, 0, 0);
-        return Performed {
-            answer: refused,
-            device: d,
-        };
-    }
-    let r = device::call(d, request(kind, a, b, c), memory, frame, buffer, list);
-    report(
-        out,
-        r.value,
-        bit_of(r.interrupt),
-        r.completed as u64,
-        r.length as u64,
-        r.outputs as u64,
-    );
-    let answer = r.answer;
-    let after = r.device;
-    Performed {
-        answer: answer_of(answer),
-        device: after,
-    }
-}
-
-// A new device; a refused one leaves what was there.
-fn make(d: Device, ports: u64, switch_id: u64) -> Performed
-    ensures { λ r. ⌜ FreshOutcome (r .answer) d (r .device) ports «switch_id» ⌝ }
-{
-    let made = device::fresh(ports, switch_id);
-    let answer = made.answer;
     let n = answer_of(answer);
-    if n != 0 {
-        return Performed {
-            answer: n,
-            device: d,
-        };
+    if n == 0 {
+        *registers = words::words_of(after);
     }
-    let fresh = made.device;
-    Performed {
-        answer: n,
-        device: fresh,
-    }
+    n
 }
 
 // ---- Exported
 
+// The bytes of the four arrays.
 #[no_mangle]
 pub extern "C" fn rocker_size() -> u64
-    ensures { λ r. ⌜ r ≡ deviceSize ⌝ }
+    ensures { λ r. ⌜ r ≡ partsSize ⌝ }
 {
-    80 + (8 + 256 * 56) + (8 + 128 * 132)
+    33920
 }
 
 #[no_mangle]
-pub extern "C" fn rocker_fresh(d: &mut Device, ports: u64, switch_id: u64) -> u32
-    ensures { λ r. ⌜ FreshOutcome r (now (d .entry)) (now (d .exit)) ports «switch_id» ⌝ }
+pub extern "C" fn rocker_fresh_parts(
+    registers: &mut [u64; 16],
+    flows: &mut [[u32; 16]; 256],
+    heads: &mut [[u32; 3]; 128],
+    members: &mut [[u16; 62]; 128],
+    ports: u64,
+    switch_id: u64,
+) -> u32
+    ensures { λ r. ⌜ FreshOutcome r (now (registers .entry)) (now (registers .exit)) (arrays (now (flows .entry)) (now (heads .entry)) (now (members .entry))) (arrays (now (flows .exit)) (now (heads .exit)) (now (members .exit))) ports «switch_id» ⌝ }
 {
-    let made = make(*d, ports, switch_id);
-    *d = made.device;
-    made.answer
+    let made = device::fresh(ports, switch_id, flows, heads, members);
+    let answer = made.answer;
+    let after = made.device;
+    store(registers, answer, after)
 }
 
 #[no_mangle]
-pub extern "C" fn rocker_call(
-    d: &mut Device,
+pub extern "C" fn rocker_read_parts(
+    registers: &[u64; 16],
+    offset: u64,
+    width: u64,
+    value: &mut u64,
+) -> u32
+    ensures { λ r. ⌜ ((a : Arrays) (b : Borrowed) → Outcome r (now (registers .entry)) (now (registers .entry)) a a (five (now (value .exit)) 0 0 0 0) (b .memory) (b .buffer) (b .list) (step (switchOf (deviceIn (now (registers .entry))) a) b (Read offset width))) ⌝ }
+{
+    let r = device::read(words::device_of(*registers), offset, width);
+    *value = r.value;
+    let answer = r.answer;
+    answer_of(answer)
+}
+
+#[no_mangle]
+pub extern "C" fn rocker_write_parts(
+    registers: &mut [u64; 16],
+    offset: u64,
+    width: u64,
+    value: u64,
+    raised: &mut u64,
+) -> u32
+    ensures { λ r. ⌜ ((a : Arrays) (b : Borrowed) → Outcome r (now (registers .entry)) (now (registers .exit)) a a (five 0 (now (raised .exit)) 0 0 0) (b .memory) (b .buffer) (b .list) (step (switchOf (deviceIn (now (registers .entry))) a) b (Write offset width value))) ⌝ }
+{
+    let r = device::write(words::device_of(*registers), offset, width, value);
+    *raised = bit_of(r.interrupt);
+    let answer = r.answer;
+    let after = r.device;
+    store(registers, answer, after)
+}
+
+// The owner sets a port's link: 0 is down, 1 is up.
+#[no_mangle]
+pub extern "C" fn rocker_link_parts(registers: &mut [u64; 16], port: u64, up: u64) -> u32
+    ensures { λ r. ⌜ ((a : Arrays) (b : Borrowed) → Outcome r (now (registers .entry)) (now (registers .exit)) a a (five 0 0 0 0 0) (b .memory) (b .buffer) (b .list) (asked (switchOf (deviceIn (now (registers .entry))) a) b 2 port up 0)) ⌝ }
+{
+    if 1 < up {
+        return 2;
+    }
+    let r = device::link(words::device_of(*registers), port, up == 1);
+    let answer = r.answer;
+    let after = r.device;
+    store(registers, answer, after)
+}
+
+// Process the slot at TAIL: the journal's record goes to the start of the buffer.
+#[no_mangle]
+pub extern "C" fn rocker_process_parts(
+    registers: &mut [u64; 16],
+    flows: &mut [[u32; 16]; 256],
+    heads: &mut [[u32; 3]; 128],
+    members: &mut [[u16; 62]; 128],
+    memory: &mut [u8],
+    buffer: &mut [u8],
+    raised: &mut u64,
+    completed: &mut u64,
+    bytes: &mut u64,
+) -> u32
+    ensures { λ r. ⌜ ((frame list : List ℕ) → Outcome r (now (registers .entry)) (now (registers .exit)) (arrays (now (flows .entry)) (now (heads .entry)) (now (members .entry))) (arrays (now (flows .exit)) (now (heads .exit)) (now (members .exit))) (five 0 (now (raised .exit)) (now (completed .exit)) (now (bytes .exit)) 0) (now (memory .exit)) (now (buffer .exit)) list (step (switchOf (deviceIn (now (registers .entry))) (arrays (now (flows .entry)) (now (heads .entry)) (now (members .entry)))) (borrowed (now (memory .entry)) frame (now (buffer .entry)) list) Process)) ⌝ }
+{
+    let d = words::device_of(*registers);
+    let r = device::process(d, memory, buffer, flows, heads, members);
+    let completion = r.completed as u64;
+    let length = r.length as u64;
+    *raised = bit_of(r.interrupt);
+    *completed = completion;
+    *bytes = length;
+    let answer = r.answer;
+    let after = r.device;
+    store(registers, answer, after)
+}
+
+// A frame in at a port: its outputs go to the start of the list.
+#[no_mangle]
+pub extern "C" fn rocker_frame_parts(
+    registers: &[u64; 16],
+    flows: &[[u32; 16]; 256],
+    heads: &[[u32; 3]; 128],
+    members: &[[u16; 62]; 128],
+    port: u64,
+    frame: &[u8],
+    list: &mut [u16],
+    outputs: &mut u64,
+) -> u32
+    ensures { λ r. ⌜ ((memory buffer : List ℕ) → Outcome r (now (registers .entry)) (now (registers .entry)) (arrays (now (flows .entry)) (now (heads .entry)) (now (members .entry))) (arrays (now (flows .entry)) (now (heads .entry)) (now (members .entry))) (five 0 0 0 0 (now (outputs .exit))) memory buffer (now (list .exit)) (step (switchOf (deviceIn (now (registers .entry))) (arrays (now (flows .entry)) (now (heads .entry)) (now (members .entry)))) (borrowed memory (now (frame .entry)) buffer (now (list .entry))) (Frame port))) ⌝ }
+{
+    let d = words::device_of(*registers);
+    let r = device::frame(d, port, frame, list, flows, heads, members);
+    *outputs = r.outputs as u64;
+    let answer = r.answer;
+    answer_of(answer)
+}
+
+// The journal's header, to the start of the buffer.
+#[no_mangle]
+pub extern "C" fn rocker_header_parts(
+    registers: &[u64; 16],
+    buffer: &mut [u8],
+    bytes: &mut u64,
+) -> u32
+    ensures { λ r. ⌜ ((a : Arrays) (memory frame list : List ℕ) → Outcome r (now (registers .entry)) (now (registers .entry)) a a (five 0 0 0 (now (bytes .exit)) 0) memory (now (buffer .exit)) list (step (switchOf (deviceIn (now (registers .entry))) a) (borrowed memory frame (now (buffer .entry)) list) Header)) ⌝ }
+{
+    let r = device::header(words::device_of(*registers), buffer);
+    *bytes = r.length as u64;
+    let answer = r.answer;
+    answer_of(answer)
+}
+
+// ---- Any call
+
+fn process_into(
+    registers: &mut [u64; 16],
+    flows: &mut [[u32; 16]; 256],
+    heads: &mut [[u32; 3]; 128],
+    members: &mut [[u16; 62]; 128],
+    memory: &mut [u8],
+    buffer: &mut [u8],
+    out: &mut [u64; 5],
+) -> u32
+    ensures { λ r. ⌜ ((frame list : List ℕ) → Outcome r (now (registers .entry)) (now (registers .exit)) (arrays (now (flows .entry)) (now (heads .entry)) (now (members .entry))) (arrays (now (flows .exit)) (now (heads .exit)) (now (members .exit))) (now (out .exit)) (now (memory .exit)) (now (buffer .exit)) list (step (switchOf (deviceIn (now (registers .entry))) (arrays (now (flows .entry)) (now (heads .entry)) (now (members .entry)))) (borrowed (now (memory .entry)) frame (now (buffer .entry)) list) Process)) ⌝ }
+{
+    let mut raised = 0;
+    let mut completed = 0;
+    let mut bytes = 0;
+    let answer = rocker_process_parts(
+        registers,
+        flows,
+        heads,
+        members,
+        memory,
+        buffer,
+        &mut raised,
+        &mut completed,
+        &mut bytes,
+    );
+    *out = [0, raised, completed, bytes, 0];
+    answer
+}
+
+fn frame_into(
+    registers: &[u64; 16],
+    flows: &[[u32; 16]; 256],
+    heads: &[[u32; 3]; 128],
+    members: &[[u16; 62]; 128],
+    port: u64,
+    frame: &[u8],
+    list: &mut [u16],
+    out: &mut [u64; 5],
+) -> u32
+    ensures { λ r. ⌜ ((memory buffer : List ℕ) → Outcome r (now (registers .entry)) (now (registers .entry)) (arrays (now (flows .entry)) (now (heads .entry)) (now (members .entry))) (arrays (now (flows .entry)) (now (heads .entry)) (now (members .entry))) (now (out .exit)) memory buffer (now (list .exit)) (step (switchOf (deviceIn (now (registers .entry))) (arrays (now (flows .entry)) (now (heads .entry)) (now (members .entry)))) (borrowed memory (now (frame .entry)) buffer (now (list .entry))) (Frame port))) ⌝ }
+{
+    let mut outputs = 0;
+    let answer = rocker_frame_parts(
+        registers,
+        flows,
+        heads,
+        members,
+        port,
+        frame,
+        list,
+        &mut outputs,
+    );
+    *out = [0, 0, 0, 0, outputs];
+    answer
+}
+
+// Any call by its kind, with all that it may borrow. What it gives goes to `out`: value, raised, completed, bytes, outputs. It goes through
+// the functions above, so that each call of the device stands in one place of the archive, where the compiler puts it in whole.
+#[no_mangle]
+pub extern "C" fn rocker_call_parts(
+    registers: &mut [u64; 16],
+    flows: &mut [[u32; 16]; 256],
+    heads: &mut [[u32; 3]; 128],
+    members: &mut [[u16; 62]; 128],
     kind: u64,
     a: u64,
     b: u64,
@@ -188,11 +252,37 @@ pub extern "C" fn rocker_call(
     frame: &[u8],
     buffer: &mut [u8],
     list: &mut [u16],
-    out: &mut [u64],
+    out: &mut [u64; 5],
 ) -> u32
-    ensures { λ r. ⌜ Outcome r (now (d .entry)) (now (d .exit)) (now (memory .exit)) (now (buffer .exit)) (now (list .exit)) (now (out .entry)) (now (out .exit)) (asked (switchOf (now (d .entry))) (borrowed (now (memory .entry)) (now (frame .entry)) (now (buffer .entry)) (now (list .entry))) kind a b c (length (now (out .entry)))) ⌝ }
+    ensures { λ r. ⌜ Outcome r (now (registers .entry)) (now (registers .exit)) (arrays (now (flows .entry)) (now (heads .entry)) (now (members .entry))) (arrays (now (flows .exit)) (now (heads .exit)) (now (members .exit))) (now (out .exit)) (now (memory .exit)) (now (buffer .exit)) (now (list .exit)) (asked (switchOf (deviceIn (now (registers .entry))) (arrays (now (flows .entry)) (now (heads .entry)) (now (members .entry)))) (borrowed (now (memory .entry)) (now (frame .entry)) (now (buffer .entry)) (now (list .entry))) kind a b c) ⌝ }
 {
-    let done = perform(*d, kind, a, b, c, memory, frame, buffer, list, out);
-    *d = done.device;
-    done.answer
+    if kind == 0 {
+        let mut value = 0;
+        let answer = rocker_read_parts(registers, a, b, &mut value);
+        *out = [value, 0, 0, 0, 0];
+        return answer;
+    }
+    if kind == 1 {
+        let mut raised = 0;
+        let answer = rocker_write_parts(registers, a, b, c, &mut raised);
+        *out = [0, raised, 0, 0, 0];
+        return answer;
+    }
+    if kind == 3 {
+        return process_into(registers, flows, heads, members, memory, buffer, out);
+    }
+    if kind == 4 {
+        return frame_into(registers, flows, heads, members, a, frame, list, out);
+    }
+    if kind == 5 {
+        let mut bytes = 0;
+        let answer = rocker_header_parts(registers, buffer, &mut bytes);
+        *out = [0, 0, 0, bytes, 0];
+        return answer;
+    }
+    *out = [0, 0, 0, 0, 0];
+    if kind == 2 {
+        return rocker_link_parts(registers, a, b);
+    }
+    2
 }

@@ -3,68 +3,73 @@
 use model::device::{Calls, Worked};
 use model::registers::Refusal;
 
+type Words = [u64; 16];
+type Flows = [[u32; 16]; 256];
+type Heads = [[u32; 3]; 128];
+type Members = [[u16; 62]; 128];
+
 /// A device as the host holds it. Only the archive looks into it.
 #[derive(Clone)]
 #[repr(C)]
 pub struct Rocker {
-    state: [u64; 3916],
+    registers: Words,
+    flows: Flows,
+    heads: Heads,
+    members: Members,
 }
-
-/// What a call gives besides its answer.
-#[derive(Clone, Copy, Default)]
-#[repr(C)]
-struct Outcome {
-    value: u64,
-    raised: u64,
-    completed: u64,
-    bytes: u64,
-    outputs: u64,
-}
-
-const LINK: u64 = 2;
-const HEADER: u64 = 5;
 
 // A slice is a pointer and a length; a pointer is never null, also where the length is 0.
 extern "C" {
     fn rocker_size() -> u64;
-    fn rocker_fresh(d: *mut Rocker, ports: u64, switch_id: u64) -> u32;
-    #[allow(clippy::too_many_arguments)]
-    fn rocker_call(
-        d: *mut Rocker,
-        kind: u64,
-        a: u64,
-        b: u64,
-        c: u64,
-        memory: *mut u8,
-        memory_length: usize,
-        frame: *const u8,
-        frame_length: usize,
-        buffer: *mut u8,
-        buffer_length: usize,
-        list: *mut u16,
-        list_length: usize,
-        out: *mut u64,
-        out_length: usize,
+    fn rocker_fresh_parts(
+        registers: *mut Words,
+        flows: *mut Flows,
+        heads: *mut Heads,
+        members: *mut Members,
+        ports: u64,
+        switch_id: u64,
     ) -> u32;
-    fn rocker_process_slot(
-        d: *mut Rocker,
+    fn rocker_read_parts(registers: *const Words, offset: u64, width: u64, value: *mut u64) -> u32;
+    fn rocker_write_parts(
+        registers: *mut Words,
+        offset: u64,
+        width: u64,
+        value: u64,
+        raised: *mut u64,
+    ) -> u32;
+    fn rocker_link_parts(registers: *mut Words, port: u64, up: u64) -> u32;
+    #[allow(clippy::too_many_arguments)]
+    fn rocker_process_parts(
+        registers: *mut Words,
+        flows: *mut Flows,
+        heads: *mut Heads,
+        members: *mut Members,
         memory: *mut u8,
         memory_length: usize,
         buffer: *mut u8,
         buffer_length: usize,
+        raised: *mut u64,
         completed: *mut u64,
         bytes: *mut u64,
     ) -> u32;
-    fn rocker_read(d: *const Rocker, offset: u64, width: u64, value: *mut u64) -> u32;
-    fn rocker_register_write(d: *mut Rocker, offset: u64, width: u64, value: u64) -> u32;
-    fn rocker_frame(
-        d: *const Rocker,
+    #[allow(clippy::too_many_arguments)]
+    fn rocker_frame_parts(
+        registers: *const Words,
+        flows: *const Flows,
+        heads: *const Heads,
+        members: *const Members,
         port: u64,
         frame: *const u8,
         frame_length: usize,
         list: *mut u16,
         list_length: usize,
         outputs: *mut u64,
+    ) -> u32;
+    fn rocker_header_parts(
+        registers: *const Words,
+        buffer: *mut u8,
+        buffer_length: usize,
+        bytes: *mut u64,
     ) -> u32;
 }
 
@@ -75,41 +80,7 @@ fn answered<T>(answer: u32, done: T) -> Result<T, Refusal> {
     }
 }
 
-impl Rocker {
-    /// A call that uses neither frame nor list.
-    fn plain(
-        &mut self,
-        kind: u64,
-        a: u64,
-        b: u64,
-        memory: &mut [u8],
-        buffer: &mut [u8],
-    ) -> Result<Outcome, Refusal> {
-        let mut o = Outcome::default();
-        // The slices are Rust's own, so they are aligned, apart and of their lengths; an outcome is five 64-bit numbers.
-        let answer = unsafe {
-            rocker_call(
-                self,
-                kind,
-                a,
-                b,
-                0,
-                memory.as_mut_ptr(),
-                memory.len(),
-                [].as_ptr(),
-                0,
-                buffer.as_mut_ptr(),
-                buffer.len(),
-                [].as_mut_ptr(),
-                0,
-                (&raw mut o).cast(),
-                5,
-            )
-        };
-        answered(answer, o)
-    }
-}
-
+// References and slices are Rust's own, so they are aligned, apart and of their lengths.
 impl Calls for Rocker {
     fn fresh(ports: u64, switch_id: u64) -> Result<Self, Refusal> {
         assert_eq!(
@@ -117,43 +88,64 @@ impl Calls for Rocker {
             size_of::<Rocker>() as u64,
             "the archive is of another device"
         );
-        let mut d = Rocker { state: [0; 3916] };
-        answered(unsafe { rocker_fresh(&mut d, ports, switch_id) }, ()).map(|()| d)
+        let mut d = Rocker {
+            registers: [0; 16],
+            flows: [[0; 16]; 256],
+            heads: [[0; 3]; 128],
+            members: [[0; 62]; 128],
+        };
+        let answer = unsafe {
+            rocker_fresh_parts(
+                &mut d.registers,
+                &mut d.flows,
+                &mut d.heads,
+                &mut d.members,
+                ports,
+                switch_id,
+            )
+        };
+        answered(answer, d)
     }
 
     fn link(&mut self, port: u64, up: bool) -> Result<(), Refusal> {
-        self.plain(LINK, port, u64::from(up), &mut [], &mut [])
-            .map(|_| ())
+        let answer = unsafe { rocker_link_parts(&mut self.registers, port, u64::from(up)) };
+        answered(answer, ())
     }
 
     fn read(&self, width: u64, offset: u64) -> Result<u64, Refusal> {
         let mut value = 0;
-        let answer = unsafe { rocker_read(self, offset, width, &mut value) };
+        let answer = unsafe { rocker_read_parts(&self.registers, offset, width, &mut value) };
         answered(answer, value)
     }
 
     fn write(&mut self, width: u64, offset: u64, value: u64) -> Result<bool, Refusal> {
-        let r = unsafe { rocker_register_write(self, offset, width, value) };
-        answered(r % 256, r / 256 == 1)
+        let mut raised = 0;
+        let answer =
+            unsafe { rocker_write_parts(&mut self.registers, offset, width, value, &mut raised) };
+        answered(answer, raised == 1)
     }
 
     fn work(&mut self, memory: &mut [u8], room: &mut [u8]) -> Result<Worked, Refusal> {
-        let (mut completed, mut bytes) = (0, 0);
-        let r = unsafe {
-            rocker_process_slot(
-                self,
+        let (mut raised, mut completed, mut bytes) = (0, 0, 0);
+        let answer = unsafe {
+            rocker_process_parts(
+                &mut self.registers,
+                &mut self.flows,
+                &mut self.heads,
+                &mut self.members,
                 memory.as_mut_ptr(),
                 memory.len(),
                 room.as_mut_ptr(),
                 room.len(),
+                &mut raised,
                 &mut completed,
                 &mut bytes,
             )
         };
         answered(
-            r % 256,
+            answer,
             Worked {
-                raised: r / 256 == 1,
+                raised: raised == 1,
                 length: bytes as usize,
             },
         )
@@ -162,8 +154,11 @@ impl Calls for Rocker {
     fn frame(&self, port: u64, frame: &[u8], list: &mut [u16]) -> Result<usize, Refusal> {
         let mut outputs = 0;
         let answer = unsafe {
-            rocker_frame(
-                self,
+            rocker_frame_parts(
+                &self.registers,
+                &self.flows,
+                &self.heads,
+                &self.members,
                 port,
                 frame.as_ptr(),
                 frame.len(),
@@ -176,9 +171,10 @@ impl Calls for Rocker {
     }
 
     fn header(&self, room: &mut [u8]) -> Result<usize, Refusal> {
-        // The call changes no device, but takes any as its own.
-        self.clone()
-            .plain(HEADER, 0, 0, &mut [], room)
-            .map(|o| o.bytes as usize)
+        let mut bytes = 0;
+        let answer = unsafe {
+            rocker_header_parts(&self.registers, room.as_mut_ptr(), room.len(), &mut bytes)
+        };
+        answered(answer, bytes as usize)
     }
 }

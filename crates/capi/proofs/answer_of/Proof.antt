@@ -4,8 +4,6 @@ use Rattle.capi.proofs.Numbers.{answer-small}
 use Rattle.answers.proofs.number.Reads as number-reads
 use Rattle.capi.proofs.answer_of.Statement.{statement}
 use Rattle.capi.proofs.answer_of.Tie as tie
-use Rattle.capi.proofs.answer_of.Reads as reads
-use Rattle.capi.proofs.answer_of.Lts as lts
 
 number-requires : tie.Need-number-requires
 number-requires c κs = search needs

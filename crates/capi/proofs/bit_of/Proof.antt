@@ -1,8 +1,6 @@
 use Rattle.capi.specs.Outcome.{bitOf}
 use Rattle.capi.proofs.bit_of.Statement.{statement}
 use Rattle.capi.proofs.bit_of.Tie as tie
-use Rattle.capi.proofs.bit_of.Reads as reads
-use Rattle.capi.proofs.bit_of.Lts as lts
 
 returns : tie.Need-returns
 unfolding bitOf
