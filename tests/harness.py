@@ -20,7 +20,7 @@ MODEL = str(ROOT / "tests/model/target/release/model")
 CONSOLE = str(ROOT / "target/bin/console")
 REPLAY = str(ROOT / "target/bin/replay")
 INTERFACE = str(ROOT / "tests/interface/target/release/interface")
-ARCHIVES = ("capi", "capi_direct")
+ARCHIVE = ROOT / "target/staticlib/libcapi.a"
 KEPT = ROOT / "target/disagreement"
 PATIENCE = 120  # seconds after which a run counts as one that does not end
 
@@ -48,17 +48,19 @@ class Disagreement(Exception):
 
 
 def build():
-    """The programs and the archives where they are missing, and what cargo builds (it says itself whether there is anything to do)."""
+    """The programs and the archive where they are missing, and what cargo builds (it says itself whether there is anything to do)."""
     if not (pathlib.Path(CONSOLE).exists() and pathlib.Path(REPLAY).exists()):
         print("building console and replay and proving what they stand on; this takes some minutes the first time", flush=True)
         subprocess.run(["rt", "check", "console", "replay"], cwd=ROOT, check=True)
-    for name in ARCHIVES:
-        archive = ROOT / f"target/staticlib/lib{name}.a"
-        if not archive.exists():
-            print(f"building {archive.relative_to(ROOT)} and proving what it stands on", flush=True)
-            subprocess.run(["rt", "staticlib", name], cwd=ROOT, check=True)
-    for package in ("tests/model", "tests/interface"):
-        subprocess.run(["cargo", "build", "--release", "--offline", "--quiet"], cwd=ROOT / package, check=True)
+    if not ARCHIVE.exists():
+        print(f"building {ARCHIVE.relative_to(ROOT)} and proving what it stands on", flush=True)
+        subprocess.run(["rt", "staticlib", "capi"], cwd=ROOT, check=True)
+    build_package("tests/model")
+    build_package("tests/interface")
+
+
+def build_package(path):
+    subprocess.run(["cargo", "build", "--release", "--offline", "--quiet"], cwd=ROOT / path, check=True)
 
 
 def generated(*words):
@@ -105,7 +107,7 @@ def named_lines(err):
 
 # ---- What is stored beside the programs that check it
 
-STORED_SCRIPTS = ("console", "payloads_run", "frames_run", "incident_run")
+STORED_SCRIPTS = ("console", "payloads_run", "frames_run", "incident_run", "worked_run")
 STORED_JOURNALS = "replay_run"
 
 

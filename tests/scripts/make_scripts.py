@@ -1,9 +1,9 @@
 #!/usr/bin/env python3
 """Writes console scripts (docs/CONSOLE.md) for the programs that run them: make_scripts.py NAME > crates/NAME/stdin.
 
-NAME is payloads_run, frames_run or incident_run; or edges or credits, the first and the last part of the script of `console`. The
-outcomes, crates/NAME/stdout, come from the second implementation of the device and never from these programs: tests/scripts/store
-writes all of them.
+NAME is payloads_run, frames_run or incident_run; or edges or credits, the first and the last part of the script of `console`. That of
+worked_run is worked.py's. The outcomes, crates/NAME/stdout, come from the second implementation of the device and never from these
+programs: tests/scripts/store writes all of them.
 """
 import struct
 import sys

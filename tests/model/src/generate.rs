@@ -13,16 +13,30 @@ pub use script::script;
 pub use trail::journal;
 
 /// The splitmix generator: small, and the same everywhere.
-pub struct Rng(u64);
+pub struct Rng {
+    state: u64,
+    /// The share of commands, in percent, that have what is to be skipped in
+    /// them. Only some seeds have any, so that the others stay as they are.
+    skipping: u64,
+}
 
 impl Rng {
     pub fn new(seed: u64) -> Self {
-        Rng(seed)
+        Rng {
+            state: seed,
+            skipping: 0,
+        }
+    }
+
+    /// The same with things to be skipped, where the seed is one of those.
+    pub fn skipping(mut self, whether: bool) -> Self {
+        self.skipping = if whether { 40 } else { 0 };
+        self
     }
 
     pub fn next(&mut self) -> u64 {
-        self.0 = self.0.wrapping_add(0x9e37_79b9_7f4a_7c15);
-        let mut z = self.0;
+        self.state = self.state.wrapping_add(0x9e37_79b9_7f4a_7c15);
+        let mut z = self.state;
         z = (z ^ (z >> 30)).wrapping_mul(0xbf58_476d_1ce4_e5b9);
         z = (z ^ (z >> 27)).wrapping_mul(0x94d0_49bb_1331_11eb);
         z ^ (z >> 31)

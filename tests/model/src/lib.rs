@@ -5,6 +5,7 @@ pub mod device;
 pub mod frame;
 pub mod generate;
 pub mod journal;
+pub mod misread;
 pub mod registers;
 pub mod tables;
 #[cfg(test)]

@@ -1,12 +1,14 @@
 //! The commands of the second implementation.
 
-use model::{console, generate, journal};
+use model::{console, generate, journal, misread};
 use std::io::{self, Read, Write};
 use std::process::ExitCode;
 
-const USAGE: &str = "usage: model console
-       model replay [FILE]
-       model execute
+const USAGE: &str = "usage: model [--misread LABEL] console
+       model [--misread LABEL] replay [FILE]
+       model [--misread LABEL] replay-all
+       model [--misread LABEL] execute
+       model --list-misreadings
        model generate SEED CALLS
        model generate-journal SEED
        model generate-payloads SEED COUNT";
@@ -26,9 +28,41 @@ fn replay(file: Option<&str>) -> io::Result<()> {
     print(journal::report(&trail).as_bytes())
 }
 
+/// Trails one after the other, each behind its length (4 bytes), as the program replay_run takes them.
+fn replay_all() -> io::Result<()> {
+    let mut input = Vec::new();
+    io::stdin().lock().read_to_end(&mut input)?;
+    let (mut rest, mut out) = (&input[..], String::new());
+    for number in 1.. {
+        let Some((length, behind)) = rest.split_first_chunk() else {
+            break;
+        };
+        let length = behind.len().min(u32::from_le_bytes(*length) as usize);
+        let (trail, next) = behind.split_at(length);
+        out.push_str(&format!("journal {number}\n{}", journal::report(trail)));
+        rest = next;
+    }
+    print(out.as_bytes())
+}
+
+fn list_misreadings() -> io::Result<()> {
+    let lines: Vec<String> = misread::all()
+        .iter()
+        .map(|(_, name, meaning)| format!("{name}\t{meaning}\n"))
+        .collect();
+    print(lines.concat().as_bytes())
+}
+
 fn main() -> ExitCode {
     let arguments: Vec<String> = std::env::args().skip(1).collect();
-    let words: Vec<&str> = arguments.iter().map(String::as_str).collect();
+    let mut words: Vec<&str> = arguments.iter().map(String::as_str).collect();
+    if let ["--misread", label, "console" | "replay" | "replay-all" | "execute", ..] = words[..] {
+        if misread::choose(label).is_none() {
+            eprintln!("model: no misreading {label}");
+            return ExitCode::from(2);
+        }
+        words.drain(..2);
+    }
     let seeded =
         |seed: &str, count: &str| Some((console::number(seed).ok()?, console::number(count).ok()?));
     let done = match words[..] {
@@ -40,6 +74,8 @@ fn main() -> ExitCode {
             let mut execute = console::Execute::default();
             console::run("execute", |line| execute.line(line))
         }
+        ["--list-misreadings"] => list_misreadings(),
+        ["replay-all"] => replay_all(),
         ["replay"] => replay(None),
         ["replay", file] => replay(Some(file)),
         [what @ ("generate" | "generate-payloads"), seed, count] => match seeded(seed, count) {

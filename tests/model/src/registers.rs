@@ -1,5 +1,7 @@
 //! The register space: which accesses are allowed, what they show and do.
 
+use crate::misread::{cut_if, misread, Label as L};
+
 /// Why a call of the device was refused; the number is the answer.
 #[derive(Clone, Copy, Debug, PartialEq, Eq)]
 pub enum Refusal {
@@ -69,7 +71,8 @@ enum Word {
 }
 
 fn word(offset: u64) -> Word {
-    match offset {
+    match misplaced(offset) {
+        0x0008..=0x000f if misread(L::BogusEightBytes) => Word::Reserved,
         0x0000..=0x000f => Word::Bogus,
         0x0010 => Word::Narrow(Narrow::Test),
         0x0018 => Word::Lower(Wide::Test64),
@@ -93,14 +96,55 @@ fn word(offset: u64) -> Word {
     }
 }
 
+/// What misreadings of the list of places take an offset for.
+fn misplaced(offset: u64) -> u64 {
+    match offset {
+        0x10 | 0x14 if misread(L::TestAt14) => offset ^ 4,
+        0x18 | 0x1c | 0x20 | 0x24 if misread(L::Test64At20) => offset ^ 0x38,
+        0x300 | 0x304 if misread(L::ControlCountSwapped) => offset ^ 4,
+        0x310..=0x31f if misread(L::LinkEnableSwapped) => offset ^ 8,
+        0x320..=0x32f if misread(L::SwitchIdAt328) => offset ^ 8,
+        0x1008 | 0x100c if misread(L::SizeHeadSwapped) => offset ^ 4,
+        0x100c | 0x1010 if misread(L::HeadTailSwapped) => offset ^ 0x1c,
+        0x1014 | 0x1018 if misread(L::CtrlCreditsSwapped) => offset ^ 0xc,
+        0x1000..=0x103f if misread(L::RingAt1020) => offset ^ 0x20,
+        _ => offset,
+    }
+}
+
 /// The shape test. An 8-byte access is refused when either of its halves is a
 /// 4-byte register; over reserved places alone it is allowed.
 fn allowed(width: u64, offset: u64) -> bool {
     let narrow = |offset| matches!(word(offset), Word::Narrow(_));
+    match (width, offset) {
+        (2, _) if misread(L::Width2Taken) => return offset % 2 == 0 && offset < 0x2000,
+        (4, _) if misread(L::FourBytesAt2) && offset % 4 == 2 => return offset < 0x2000,
+        (8, _) if misread(L::EightBytesAt4) && offset % 8 == 4 => return offset < 0x1ffc,
+        (8, 0x10) if misread(L::EightBytesOverTest) => return true,
+        (8, 0x1fff..) | (4, 0x1ffc..) if misread(L::SpaceEndsAt1ffb) => return false,
+        (4 | 8, 0x2000) if misread(L::SpaceGoesOn) => return true,
+        (8, 0 | 8) if misread(L::EightBytesBogus) => return false,
+        (8, 0x10 | 0x300 | 0x1008 | 0x1010 | 0x1018) if misread(L::EightBytesOverFour) => {
+            return true
+        }
+        (8, _) if misread(L::EightBytesReserved) && word(offset) == Word::Reserved => return false,
+        (4 | 8, _) if misread(L::ReservedRefused) && word(offset) == Word::Reserved => {
+            return false
+        }
+        _ => {}
+    }
     (width == 4 || width == 8)
         && offset.is_multiple_of(width)
         && u128::from(offset) + u128::from(width) <= SPACE
         && (width == 4 || !(narrow(offset) || narrow(offset + 4)))
+}
+
+/// The shape as it was handed in; two misreadings cut it.
+fn shape(width: u64, offset: u64) -> (u64, u64) {
+    (
+        cut_if(L::WidthBy32Bits, width),
+        cut_if(L::OffsetBy32Bits, offset),
+    )
 }
 
 /// A writable 64-bit register with the hold that belongs to it alone.
@@ -123,7 +167,8 @@ pub struct Ring {
 impl Ring {
     /// (to − from) modulo SIZE, for places in the ring.
     fn distance(&self, from: u32, to: u32) -> u32 {
-        (to + self.size - from) % self.size
+        // SIZE divides 2^32.
+        to.wrapping_sub(from) % self.size
     }
 
     pub fn outstanding(&self) -> u32 {
@@ -136,6 +181,20 @@ impl Ring {
 
     /// Without a SIZE no value is below it, so every HEAD is refused.
     fn takes_head(&self, new: u32) -> bool {
+        if self.size > 0 && new <= self.size {
+            let filled = self.outstanding() + self.distance(self.head, new);
+            match new {
+                _ if misread(L::HeadOnlyBelowSize) => return new < self.size,
+                _ if misread(L::HeadFillsRing) => return new < self.size && filled <= self.size,
+                _ if misread(L::HeadLeavesTwo) => return new < self.size && filled + 1 < self.size,
+                _ if misread(L::HeadAtSize) && new == self.size => return true,
+                _ if misread(L::HeadNeverBack) && new < self.head => return false,
+                _ if misread(L::HeadSameRefused) && new == self.head => return false,
+                _ => {}
+            }
+        } else if misread(L::HeadWithoutSize) && new == 0 {
+            return true;
+        }
         new < self.size && self.outstanding() + self.distance(self.head, new) < self.size
     }
 }
@@ -162,7 +221,7 @@ pub struct Registers {
 
 impl Registers {
     pub fn fresh(ports: u32, switch_id: u64) -> Self {
-        Registers {
+        let mut fresh = Registers {
             ports,
             switch_id,
             links: 0,
@@ -170,12 +229,43 @@ impl Registers {
             ring: Ring::default(),
             test: 0,
             test64: Held::default(),
+        };
+        if misread(L::FreshLinksUp) {
+            fresh.links = fresh.port_bits();
         }
+        if misread(L::FreshEnabled) {
+            fresh.enable.value = fresh.port_bits();
+        }
+        fresh
     }
 
     /// Bits 1 to the port count.
     fn port_bits(&self) -> u64 {
         (1..=self.ports).map(|port| 1u64 << port).sum()
+    }
+
+    /// What misreadings bring over a device reset.
+    fn misreset(&mut self, old: &Registers) {
+        match () {
+            _ if misread(L::ResetDropsPorts) => self.ports = 1,
+            _ if misread(L::ResetDropsLinks) => self.links = 0,
+            _ if misread(L::ResetDropsSwitchId) => self.switch_id = 0,
+            _ if misread(L::ResetKeepsEnable) => self.enable.value = old.enable.value,
+            _ if misread(L::ResetKeepsTest) => self.test = old.test,
+            _ if misread(L::ResetKeepsTest64) => self.test64.value = old.test64.value,
+            _ if misread(L::ResetKeepsHolds) => {
+                self.enable.hold = old.enable.hold;
+                self.test64.hold = old.test64.hold;
+                self.ring.base.hold = old.ring.base.hold;
+            }
+            _ if misread(L::ResetKeepsBase) => self.ring.base.value = old.ring.base.value,
+            _ if misread(L::ResetKeepsSize) => self.ring.size = old.ring.size,
+            _ if misread(L::ResetKeepsHead) => {
+                (self.ring.head, self.ring.tail) = (old.ring.head, old.ring.tail)
+            }
+            _ if misread(L::ResetKeepsCredits) => self.ring.credits = old.ring.credits,
+            _ => {}
+        }
     }
 
     /// A port that is both up and enabled.
@@ -184,9 +274,15 @@ impl Registers {
     }
 
     fn show_wide(&self, register: Wide) -> u64 {
+        let test64 = self.test64.value;
         match register {
-            Wide::Test64 => self.test64.value.wrapping_add(self.test64.value),
+            Wide::Test64 if misread(L::Test64Once) => test64,
+            Wide::Test64 if misread(L::Test64ByHalves) => test64.wrapping_add(test64) & !(1 << 32),
+            Wide::Test64 => test64.wrapping_add(test64),
+            Wide::LinkStatus if misread(L::LinkStatusFromBit0) => self.links >> 1,
+            Wide::LinkStatus if misread(L::LinkStatusEnabled) => self.links & self.enable.value,
             Wide::LinkStatus => self.links,
+            Wide::Enable if misread(L::EnableFromBit0) => self.enable.value >> 1,
             Wide::Enable => self.enable.value,
             Wide::SwitchId => self.switch_id,
             Wide::BaseAddr => self.ring.base.value,
@@ -195,8 +291,15 @@ impl Registers {
 
     fn show(&self, word: Word) -> u32 {
         match word {
+            Word::Bogus if misread(L::BogusBeef) => 0xDEAD_BEEF,
             Word::Bogus => BOGUS,
+            Word::Narrow(Narrow::Test) if misread(L::TestOnce) => self.test,
+            Word::Narrow(Narrow::Test) if misread(L::TestSaturates) => {
+                self.test.saturating_add(self.test)
+            }
             Word::Narrow(Narrow::Test) => self.test.wrapping_add(self.test),
+            Word::Narrow(Narrow::Control) if misread(L::ControlReads1) => 1,
+            Word::Narrow(Narrow::Ctrl) if misread(L::CtrlReads1) => 1,
             Word::Narrow(Narrow::Control | Narrow::Ctrl) => 0,
             Word::Narrow(Narrow::PortCount) => self.ports,
             Word::Narrow(Narrow::Size) => self.ring.size,
@@ -210,10 +313,20 @@ impl Registers {
     }
 
     pub fn read(&self, width: u64, offset: u64) -> Result<u64, Refusal> {
+        let (width, offset) = shape(width, offset);
         if !allowed(width, offset) {
             return Err(Refusal::Access);
         }
         let lower = u64::from(self.show(word(offset)));
+        match (width, offset) {
+            (4, 0x0010) if misread(L::TestCarries) => return Ok(2 * u64::from(self.test)),
+            (4, 0x001c) if misread(L::Test64HalfDoubled) => {
+                return Ok((self.test64.value >> 32 << 1) & 0xffff_ffff)
+            }
+            (4, 0x0018) if misread(L::HoldShown) => return Ok(u64::from(self.test64.hold)),
+            (8, 0x0000) if misread(L::BogusOnce) => return Ok(lower),
+            _ => {}
+        }
         if width == 4 {
             return Ok(lower);
         }
@@ -221,25 +334,96 @@ impl Registers {
     }
 
     pub fn write(&mut self, width: u64, offset: u64, value: u64) -> Result<Written, Refusal> {
+        let (width, offset) = shape(width, offset);
+        let half = value as u32;
+        if misread(L::ValueBeforeAccess) && offset == 0x1008 && !is_size(half) {
+            return Err(Refusal::Value);
+        }
         if !allowed(width, offset) {
             return Err(Refusal::Access);
         }
-        let half = value as u32;
+        match word(offset) {
+            _ if misread(L::Over32BitsRefused) && width == 4 && value >> 32 != 0 => {
+                return Err(Refusal::Value)
+            }
+            Word::Bogus if misread(L::BogusWritten) => self.test = half,
+            Word::Narrow(Narrow::PortCount | Narrow::Tail)
+            | Word::Lower(Wide::LinkStatus | Wide::SwitchId)
+            | Word::Upper(Wide::LinkStatus | Wide::SwitchId)
+                if misread(L::ReadOnlyRefused) =>
+            {
+                return Err(Refusal::Access)
+            }
+            Word::Narrow(Narrow::PortCount) if misread(L::PortCountWritten) => {
+                self.ports = half.clamp(1, 62)
+            }
+            Word::Narrow(Narrow::Tail) if misread(L::TailWritten) => self.ring.tail = half,
+            Word::Lower(Wide::LinkStatus) if misread(L::LinkStatusWritten) => self.links = value,
+            Word::Lower(Wide::SwitchId) if misread(L::SwitchIdWritten) => self.switch_id = value,
+            _ => {}
+        }
         match (width, word(offset)) {
             (_, Word::Bogus | Word::Reserved) => Ok(Written::default()),
             (4, Word::Narrow(register)) => self.write_narrow(register, half),
             (4, Word::Lower(register)) => {
+                if misread(L::LowerBaseChecked) && register == Wide::BaseAddr && half % 8 != 0 {
+                    return Err(Refusal::Value);
+                }
+                if misread(L::LowerBaseMovesHead) && register == Wide::BaseAddr {
+                    (self.ring.head, self.ring.tail) = (0, 0);
+                }
                 if let Some(held) = self.held(register) {
                     held.hold = half;
+                    if misread(L::LowerWrites) {
+                        held.value = held.value >> 32 << 32 | u64::from(half);
+                    }
                 }
+                self.mishare(half);
                 Ok(Written::default())
             }
             (4, Word::Upper(register)) => {
-                let hold = self.held(register).map_or(0, |held| held.hold);
-                self.write_wide(register, u64::from(half) << 32 | u64::from(hold))
+                let mut hold = self.held(register).map_or(0, |held| held.hold);
+                if misread(L::UpperTakesOldLower) {
+                    hold = self.held(register).map_or(0, |held| held.value as u32);
+                }
+                let ring = self.ring;
+                let done = self.write_wide(register, u64::from(half) << 32 | u64::from(hold));
+                let labels = (L::UpperKeepsHold, L::RefusedUpperClearsHold);
+                self.mishold(register, hold, done.is_ok(), labels);
+                if misread(L::UpperBaseKeepsHead) {
+                    (self.ring.head, self.ring.tail) = (ring.head, ring.tail);
+                }
+                done
             }
-            (_, Word::Lower(register)) => self.write_wide(register, value),
+            (_, Word::Lower(register)) => {
+                let hold = self.held(register).map_or(0, |held| held.hold);
+                let done = self.write_wide(register, value);
+                let labels = (L::EightBytesKeepHold, L::RefusedEightBytesClearHold);
+                self.mishold(register, hold, done.is_ok(), labels);
+                done
+            }
             (_, Word::Narrow(_) | Word::Upper(_)) => Err(Refusal::Access),
+        }
+    }
+
+    /// Two misreadings of when a hold is cleared.
+    fn mishold(&mut self, register: Wide, hold: u32, accepted: bool, (keeps, clears): (L, L)) {
+        if let Some(held) = self.held(register) {
+            if accepted && misread(keeps) {
+                held.hold = hold;
+            }
+            if !accepted && misread(clears) {
+                held.hold = 0;
+            }
+        }
+    }
+
+    /// One hold for all is as many that are always the same.
+    fn mishare(&mut self, hold: u32) {
+        if misread(L::OneHold) {
+            for held in [&mut self.test64, &mut self.enable, &mut self.ring.base] {
+                held.hold = hold;
+            }
         }
     }
 
@@ -255,7 +439,25 @@ impl Registers {
 
     fn write_wide(&mut self, register: Wide, value: u64) -> Result<Written, Refusal> {
         let kept = match register {
-            Wide::BaseAddr if !value.is_multiple_of(8) => return Err(Refusal::Value),
+            Wide::BaseAddr if misread(L::BaseOf4) && value % 8 == 4 => value,
+            Wide::BaseAddr if misread(L::BaseOf16) && value % 16 != 0 => {
+                return Err(Refusal::Value)
+            }
+            Wide::BaseAddr if misread(L::BaseOf32) && value % 32 != 0 => {
+                return Err(Refusal::Value)
+            }
+            Wide::BaseAddr if !value.is_multiple_of(8) => {
+                if misread(L::RefusedBaseMovesHead) {
+                    (self.ring.head, self.ring.tail) = (0, 0);
+                }
+                return Err(Refusal::Value);
+            }
+            Wide::Enable if misread(L::EnableFromBit0) => value << 1 & self.port_bits(),
+            Wide::Enable if misread(L::EnableKeepsBit0) => value & (self.port_bits() | 1),
+            Wide::Enable if misread(L::EnableKeepsHighBits) => value & !1,
+            Wide::Enable if misread(L::EnableRefusesBits) && value & !self.port_bits() != 0 => {
+                return Err(Refusal::Value)
+            }
             Wide::Enable => value & self.port_bits(),
             _ => value,
         };
@@ -266,56 +468,137 @@ impl Registers {
                 hold: 0,
             };
         }
+        self.mishare(0);
         if register == Wide::BaseAddr {
+            let old = self.ring;
             self.ring.head = 0;
             self.ring.tail = 0;
+            match () {
+                _ if misread(L::BaseKeepsHead) => self.ring.head = old.head,
+                _ if misread(L::BaseKeepsTail) => self.ring.tail = old.tail,
+                _ if misread(L::BaseDropsCredits) => self.ring.credits = 0,
+                _ if misread(L::BaseDropsSize) => self.ring.size = 0,
+                _ => {}
+            }
         }
         Ok(Written::default())
     }
 
     fn write_narrow(&mut self, register: Narrow, value: u32) -> Result<Written, Refusal> {
         let ring = &mut self.ring;
+        let old = *ring;
         let mut done = Written::default();
         match register {
             Narrow::Test => self.test = value,
             Narrow::Control => {
-                if value & 1 != 0 {
+                if value & 1 != 0 || misread(L::ControlAnyBit) && value != 0 {
                     // Port count, switch ID and links outlive a reset.
-                    let links = self.links;
+                    let before = self.clone();
                     *self = Registers::fresh(self.ports, self.switch_id);
-                    self.links = links;
+                    self.links = before.links;
+                    self.misreset(&before);
                     done.reset = true;
                 }
             }
             Narrow::PortCount | Narrow::Tail => {}
             Narrow::Size => {
-                if !value.is_power_of_two() || !(2..=65_536).contains(&value) {
+                if !is_size(value) {
+                    if misread(L::RefusedSizeMovesHead) {
+                        (ring.head, ring.tail) = (0, 0);
+                    }
                     return Err(Refusal::Value);
                 }
                 ring.size = value;
                 ring.head = 0;
                 ring.tail = 0;
+                match () {
+                    _ if misread(L::SizeKeepsHead) => ring.head = old.head,
+                    _ if misread(L::SizeKeepsTail) => ring.tail = old.tail,
+                    _ if misread(L::SizeSameKeepsHead) && value == old.size => *ring = old,
+                    _ if misread(L::SizeDropsCredits) => ring.credits = 0,
+                    _ if misread(L::SizeDropsBase) => ring.base.value = 0,
+                    _ if misread(L::SizeDropsHold) => ring.base.hold = 0,
+                    _ => {}
+                }
             }
             Narrow::Head => {
+                let value = if misread(L::HeadBy16Bits) {
+                    value & 0xffff
+                } else {
+                    value
+                };
                 if !ring.takes_head(value) {
+                    if misread(L::RefusedHeadMoves) {
+                        ring.head = value;
+                    }
                     return Err(Refusal::Value);
                 }
                 ring.head = value;
+                if misread(L::HeadMovesByOne) && value != old.head {
+                    ring.head = (old.head + 1) % ring.size;
+                }
+                if misread(L::HeadSameIsWork) && value == old.head {
+                    ring.tail = ring.tail.wrapping_sub(1) % ring.size;
+                }
             }
             Narrow::Ctrl => {
-                if value & 1 != 0 {
+                if value & 1 != 0 || misread(L::CtrlAnyBit) && value != 0 {
                     *ring = Ring::default();
+                    match () {
+                        _ if misread(L::CtrlKeepsBase) => ring.base.value = old.base.value,
+                        _ if misread(L::CtrlKeepsHold) => ring.base.hold = old.base.hold,
+                        _ if misread(L::CtrlKeepsSize) => ring.size = old.size,
+                        _ if misread(L::CtrlKeepsHead) => ring.head = old.head,
+                        _ if misread(L::CtrlKeepsTail) => ring.tail = old.tail,
+                        _ if misread(L::CtrlKeepsCredits) => ring.credits = old.credits,
+                        _ if misread(L::CtrlDropsOtherHolds) => {
+                            (self.test64.hold, self.enable.hold) = (0, 0)
+                        }
+                        _ => done.reset = misread(L::CtrlResetsDevice),
+                    }
                 }
             }
             Narrow::Credits => {
+                if misread(L::CreditsAllRefused) && value == ring.credits && value > 0 {
+                    return Err(Refusal::Value);
+                }
+                let over = misread(L::CreditsOverTakesAll) && value > ring.credits;
+                let value = if over { ring.credits } else { value };
                 if value > ring.credits {
+                    if misread(L::RefusedCreditsTaken) {
+                        ring.credits = 0;
+                    }
                     return Err(Refusal::Value);
                 }
                 ring.credits -= value;
-                done.raised = ring.credits > 0;
+                match () {
+                    _ if misread(L::CreditsWriteSets) => ring.credits = value,
+                    _ if misread(L::CreditsWriteDrops) => ring.credits = 0,
+                    _ => {}
+                }
+                done.raised = match () {
+                    _ if misread(L::CreditsRaiseAlways) => true,
+                    _ if misread(L::CreditsRaiseNever) => false,
+                    _ if misread(L::CreditsRaiseAtNone) => ring.credits == 0,
+                    _ if misread(L::CreditsOfNoneQuiet) && value == 0 => false,
+                    _ => ring.credits > 0,
+                };
             }
         }
         Ok(done)
+    }
+}
+
+/// A power of two from 2 to 65,536.
+fn is_size(value: u32) -> bool {
+    match value {
+        0 if misread(L::Size0Taken) => true,
+        1 if misread(L::Size1Taken) => true,
+        2 if misread(L::Size2Refused) => false,
+        65_536 if misread(L::Size65536Refused) => false,
+        131_072 if misread(L::Size131072Taken) => true,
+        2..=65_536 if misread(L::SizeAnyNumber) => true,
+        _ => value.is_power_of_two() && (2..=65_536).contains(&value),
     }
 }
 

@@ -1,5 +1,6 @@
 //! Flows and groups, and the commands that change them.
 
+use crate::misread::{misread, Label as L};
 use crate::tlv::{split, Fields};
 use std::collections::BTreeMap;
 
@@ -18,7 +19,16 @@ pub enum Status {
 
 impl Status {
     pub fn code(self) -> u16 {
-        self as u16
+        match self {
+            Status::Enoent if misread(L::OtherEnoent) => 3,
+            Status::Enxio if misread(L::OtherEnxio) => 5,
+            Status::Enomem if misread(L::OtherEnomem) => 28,
+            Status::Eexist if misread(L::OtherEexist) => 16,
+            Status::Einval if misread(L::OtherEinval) => 14,
+            Status::Emsgsize if misread(L::OtherEmsgsize) => 27,
+            Status::Enotsup if misread(L::OtherEnotsup) => 38,
+            _ => self as u16,
+        }
     }
 
     /// COMP_ERR as it is stamped: done, with the code.
@@ -92,12 +102,19 @@ pub enum Group {
 
 /// The parts of a group ID.
 pub fn id_type(id: u32) -> u32 {
-    id >> 28
+    match id >> 28 {
+        kind if misread(L::GroupTypeBy2Bits) => kind & 3,
+        kind if misread(L::GroupTypeBy3Bits) => kind & 7,
+        kind => kind,
+    }
 }
 pub fn id_vlan(id: u32) -> u16 {
     (id >> 16 & 0xfff) as u16
 }
 pub fn id_low(id: u32) -> u16 {
+    if misread(L::GroupLowBy8Bits) {
+        return id as u16 & 0xff;
+    }
     id as u16
 }
 
@@ -105,11 +122,24 @@ fn is_vlan(vlan: u16) -> bool {
     (1..=4094).contains(&vlan)
 }
 
+/// A VLAN from 1 to 4094, where four misreadings have other edges.
+fn is_vlan_but(vlan: u16, [zero, first, last, above]: [L; 4]) -> bool {
+    match vlan {
+        0 if misread(zero) => true,
+        1 if misread(first) => false,
+        4094 if misread(last) => false,
+        4095 if misread(above) => true,
+        _ => is_vlan(vlan),
+    }
+}
+
 #[derive(Clone, Debug, PartialEq, Eq)]
 pub struct Tables {
     pub ports: u32,
     pub flows: BTreeMap<u64, Flow>,
     pub groups: BTreeMap<u32, Group>,
+    /// The cookies as they were added; only misreadings look at it.
+    pub added: Vec<u64>,
 }
 
 #[derive(Clone, Copy, PartialEq, Eq)]
@@ -124,6 +154,7 @@ impl Tables {
             ports,
             flows: BTreeMap::new(),
             groups: BTreeMap::new(),
+            added: Vec::new(),
         }
     }
 
@@ -138,36 +169,168 @@ impl Tables {
     /// The order of the checks is the order of the statuses.
     fn command(&mut self, payload: &[u8]) -> Result<(), Status> {
         let top = Fields::of(payload)?;
-        let code = u16::from_le_bytes(top.need(CMD_TYPE)?);
-        let info = top.need_nest(CMD_INFO)?;
-        if ![3, 4, 5, 7, 8, 9].contains(&code) {
+        if misread(L::UnknownBeforeTop) && is_unknown(top.peek(CMD_TYPE)) {
             return Err(Status::Enotsup);
         }
-        let fields = Fields::of(info)?;
+        let mut code = u16::from_le_bytes(top.need(CMD_TYPE)?);
+        let info = match top.nest(CMD_INFO)? {
+            None if misread(L::CmdInfoMissing) => &[],
+            info => info.ok_or(Status::Einval)?,
+        };
+        match code {
+            _ if misread(L::CmdTypeBigEndian) => code = code.swap_bytes(),
+            _ if misread(L::CmdTypeBy8Bits) => code &= 0xff,
+            _ if misread(L::CmdTypeFirst) && top.place(CMD_INFO) < top.place(CMD_TYPE) => {
+                return Err(Status::Einval)
+            }
+            _ if misread(L::CmdInfoWidth) && info.len() % 8 != 0 => return Err(Status::Einval),
+            _ if misread(L::NestBeforeUnknown) => drop(split(info).ok_or(Status::Einval)?),
+            4 | 5 if misread(L::FlowModDelSwapped) => code = 9 - code,
+            8 | 9 if misread(L::GroupModDelSwapped) => code = 17 - code,
+            6..=9 if misread(L::GroupCommandsFrom6) => code = code % 9 + 1,
+            6 if misread(L::Command6) => return Ok(()),
+            _ => {}
+        }
+        if ![3, 4, 5, 7, 8, 9].contains(&code) {
+            if misread(L::UnknownEinval) {
+                return Err(Status::Einval);
+            }
+            return Err(Status::Enotsup);
+        }
+        let begins_with_tbl = info.starts_with(&[1, 0, 0, 0, 2, 0]);
+        let other_table = info.get(8).is_some_and(|low| ![0, 10, 50].contains(low));
+        if misread(L::TableBeforeNest) && code < 5 && begins_with_tbl && other_table {
+            return Err(Status::Enotsup);
+        }
+        let fields = Fields::info(info, code)?;
         match code {
             3 => self.put_flow(Action::Add, &fields),
             4 => self.put_flow(Action::Mod, &fields),
-            5 => {
-                let cookie = u64::from_le_bytes(fields.need(field::COOKIE)?);
-                self.flows.remove(&cookie).map(|_| ()).ok_or(Status::Enoent)
-            }
+            5 => self.del_flow(&fields),
             7 => self.put_group(Action::Add, &fields),
             8 => self.put_group(Action::Mod, &fields),
-            _ => {
-                let id = group_id(&fields)?;
-                self.groups.remove(&id).map(|_| ()).ok_or(Status::Enoent)
+            _ => self.del_group(&fields),
+        }
+    }
+
+    /// Del reads only its key.
+    fn del_flow(&mut self, fields: &Fields) -> Result<(), Status> {
+        fields.skipped()?;
+        if misread(L::DelNeedsTable)
+            || misread(L::DelLooksAtTable) && fields.peek::<2>(field::TBL).is_some()
+        {
+            table(fields)?;
+        }
+        let cookie = key(u64::from_le_bytes(fields.need(field::COOKIE)?));
+        if let Some(flow) = self.flows.get(&cookie) {
+            let table = fields.peek(field::TBL).map(u16::from_le_bytes);
+            let priority = fields.peek(field::PRIORITY).map(u32::from_le_bytes);
+            if misread(L::DelComparesTable) && table.is_some_and(|table| table != flow.table())
+                || misread(L::DelComparesPriority)
+                    && priority.is_some_and(|priority| priority != flow.priority)
+            {
+                return Err(Status::Enoent);
             }
+        }
+        let gone = self.flows.remove(&cookie);
+        self.added.retain(|other| *other != cookie);
+        match gone {
+            None if misread(L::DelOfNoneOk) => Ok(()),
+            Some(_) if misread(L::DelAll) => {
+                self.flows.clear();
+                Ok(())
+            }
+            gone => gone.map(|_| ()).ok_or(Status::Enoent),
+        }
+    }
+
+    fn del_group(&mut self, fields: &Fields) -> Result<(), Status> {
+        fields.skipped()?;
+        let id = match u32::from_le_bytes(fields.need(field::GROUP_ID)?) {
+            id if misread(L::GroupDelAnyType) && is_vlan(id_vlan(id)) => id,
+            id if misread(L::GroupDelAnyVlan) && [0, 3, 4].contains(&id_type(id)) => id,
+            _ => group_id(fields)?,
+        };
+        let names =
+            |flow: &Flow| matches!(flow.matching, Match::Bridge { group, .. } if group == Some(id));
+        match () {
+            _ if misread(L::GroupDelLowBits) && u32::from(id_low(id)) > self.ports => {
+                return Err(Status::Einval)
+            }
+            _ if misread(L::GroupDelInUse) && self.flows.values().any(names) => {
+                return Err(Status::Einval)
+            }
+            _ if misread(L::GroupDelDropsFlows) => self.flows.retain(|_, flow| !names(flow)),
+            _ if misread(L::GroupDelDropsMembers) => {
+                for group in self.groups.values_mut() {
+                    if let Group::List { members } = group {
+                        members.retain(|member| *member != id);
+                    }
+                }
+            }
+            _ => {}
+        }
+        match self.groups.remove(&id) {
+            None if misread(L::DelOfNoneOk) => Ok(()),
+            Some(_) if misread(L::DelAll) => {
+                self.groups.clear();
+                Ok(())
+            }
+            gone => gone.map(|_| ()).ok_or(Status::Enoent),
         }
     }
 
     fn put_flow(&mut self, action: Action, fields: &Fields) -> Result<(), Status> {
-        let (cookie, flow) = self.flow(fields)?;
-        put(&mut self.flows, FLOW_LIMIT, action, cookie, flow)
+        let limit = match () {
+            _ if misread(L::Flows255) => 255,
+            _ if misread(L::Flows257) => 257,
+            _ if misread(L::FullBySum) => FLOW_LIMIT - self.groups.len(),
+            _ => FLOW_LIMIT,
+        };
+        if let Some(cookie) = fields.peek(field::COOKIE).map(u64::from_le_bytes) {
+            early(&self.flows, limit, action, &cookie)?;
+        }
+        let (cookie, mut flow) = self.flow(fields)?;
+        if let Some(old) = self.flows.get(&cookie) {
+            let other_table = old.table() != flow.table();
+            match action {
+                Action::Mod if misread(L::ModKeepsTable) && other_table => {
+                    return Err(Status::Einval)
+                }
+                Action::Mod if misread(L::CookieByTable) && other_table => {
+                    return Err(Status::Enoent)
+                }
+                Action::Add if misread(L::CookieByTable) && other_table => return Ok(()),
+                Action::Mod => flow.mismodify(old),
+                Action::Add => {}
+            }
+        }
+        let gone = misread(L::TimesExpire) && flow.hard_time > 0;
+        put(&mut self.flows, limit, action, cookie, flow)?;
+        if action == Action::Add {
+            self.added.push(cookie);
+        }
+        if gone {
+            self.flows.remove(&cookie);
+        }
+        Ok(())
     }
 
     fn put_group(&mut self, action: Action, fields: &Fields) -> Result<(), Status> {
-        let (id, group) = self.group(fields)?;
-        put(&mut self.groups, GROUP_LIMIT, action, id, group)
+        let limit = match () {
+            _ if misread(L::Groups127) => 127,
+            _ if misread(L::Groups129) => 129,
+            _ if misread(L::FullBySum) => FLOW_LIMIT.saturating_sub(self.flows.len()),
+            _ => GROUP_LIMIT,
+        };
+        if let Some(id) = fields.peek(field::GROUP_ID).map(u32::from_le_bytes) {
+            early(&self.groups, limit, action, &id)?;
+        }
+        let (id, mut group) = self.group(fields)?;
+        if let (Action::Mod, Some(old)) = (action, self.groups.get(&id)) {
+            group.mismodify(old);
+        }
+        put(&mut self.groups, limit, action, id, group)
     }
 
     fn is_port(&self, port: u32) -> bool {
@@ -175,41 +338,96 @@ impl Tables {
     }
 
     fn flow(&self, fields: &Fields) -> Result<(u64, Flow), Status> {
-        let table = u16::from_le_bytes(fields.need(field::TBL)?);
-        // A table that is not there comes before every fault of other fields.
+        let table = table(fields)?;
+        fields.skipped()?;
         let onward = match table {
             0 => 10,
             10 => 20,
-            50 => 60,
-            _ => return Err(Status::Enotsup),
+            _ => 60,
         };
-        let cookie = u64::from_le_bytes(fields.need(field::COOKIE)?);
+        let cookie = key(u64::from_le_bytes(fields.need(field::COOKIE)?));
+        let times_missing = [field::HARDTIME, field::IDLETIME]
+            .iter()
+            .any(|kind| fields.peek::<4>(*kind).is_none());
+        if misread(L::TimesRequired) && times_missing
+            || misread(L::CookieZeroRefused) && cookie == 0
+        {
+            return Err(Status::Einval);
+        }
         let flow = Flow {
             priority: u32::from_le_bytes(fields.need(field::PRIORITY)?),
             hard_time: u32::from_le_bytes(fields.maybe(field::HARDTIME)?.unwrap_or_default()),
             idle_time: u32::from_le_bytes(fields.maybe(field::IDLETIME)?.unwrap_or_default()),
             goto: u16::from_le_bytes(fields.need(field::GOTO_TBL)?),
             matching: match table {
-                0 => ingress_match(fields)?,
+                0 => self.ingress_match(fields)?,
                 10 => self.vlan_match(fields)?,
-                _ => bridge_match(fields)?,
+                _ => self.bridge_match(fields)?,
             },
         };
-        if flow.goto != 0 && flow.goto != onward {
+        let goes = match (table, flow.goto) {
+            (_, 0) if misread(L::Goto0Refused) => false,
+            (_, 10 | 20 | 50 | 60) if misread(L::GotoAnyTable) => true,
+            (0, 50) if misread(L::Table0Goto50) => true,
+            (0, 20) if misread(L::Table0Goto20) => true,
+            (10, 50) if misread(L::Table10Goto50) => true,
+            (10, 10) if misread(L::Table10Goto10) => true,
+            (50, 20) if misread(L::Table50Goto20) => true,
+            (_, goto) => goto == 0 || goto == onward,
+        };
+        if !goes {
             return Err(Status::Einval);
         }
         Ok((cookie, flow))
     }
 
-    fn vlan_match(&self, fields: &Fields) -> Result<Match, Status> {
+    fn ingress_match(&self, fields: &Fields) -> Result<Match, Status> {
         let port = u32::from_le_bytes(fields.need(field::IN_PPORT)?);
-        let vlan = u16::from_be_bytes(fields.need(field::VLAN_ID)?);
+        let mask = u32::from_le_bytes(fields.need(field::IN_PPORT_MASK)?);
+        if misread(L::Table0PortRange) && !self.is_port(port)
+            || misread(L::Table0MaskCovers) && port & !mask != 0
+            || misread(L::Table0MaskNot0) && mask == 0
+        {
+            return Err(Status::Einval);
+        }
+        Ok(Match::Ingress { port, mask })
+    }
+
+    fn vlan_match(&self, fields: &Fields) -> Result<Match, Status> {
+        let mut port = u32::from_le_bytes(fields.need(field::IN_PPORT)?);
+        let mut vlan = u16::from_be_bytes(fields.need(field::VLAN_ID)?);
         let new_vlan = fields.maybe(field::NEW_VLAN_ID)?.map(u16::from_be_bytes);
+        match () {
+            _ if misread(L::Table10PortBy16Bits) => port &= 0xffff,
+            _ if misread(L::VlanBy12Bits) => vlan &= 0xfff,
+            _ => {}
+        }
+        let known = match port {
+            0 if misread(L::Table10Port0) => true,
+            1 if misread(L::Table10Port1Refused) => false,
+            _ if misread(L::Table10LastPortRefused) && port == self.ports => false,
+            _ if misread(L::Table10PortAbove) && port == self.ports + 1 => true,
+            _ => self.is_port(port),
+        };
+        let edges = [
+            L::NewVlan0,
+            L::NewVlan1Refused,
+            L::NewVlan4094Refused,
+            L::NewVlan4095,
+        ];
         let fits = match new_vlan {
-            Some(new) => vlan == 0 && is_vlan(new),
+            _ if misread(L::Table10Vlan0Refused) && vlan == 0 => false,
+            None if misread(L::NewVlanOptional) && vlan == 0 => true,
+            None if misread(L::NewVlanRequired) => false,
+            None if misread(L::Table10Vlan1Refused) && vlan == 1 => false,
+            None if misread(L::Table10Vlan4094Refused) && vlan == 4094 => false,
+            None if misread(L::Table10Vlan4095) && vlan == 4095 => true,
+            Some(new) if misread(L::NewVlanAlways) => is_vlan(new) && vlan <= 4094,
+            Some(new) if misread(L::NewVlanRequired) => is_vlan(new) && vlan <= 4094,
+            Some(new) => vlan == 0 && is_vlan_but(new, edges),
             None => is_vlan(vlan),
         };
-        if !self.is_port(port) || !fits {
+        if !known || !fits {
             return Err(Status::Einval);
         }
         Ok(Match::Vlan {
@@ -219,13 +437,90 @@ impl Tables {
         })
     }
 
+    fn bridge_match(&self, fields: &Fields) -> Result<Match, Status> {
+        let mut vlan = u16::from_be_bytes(fields.need(field::VLAN_ID)?);
+        if misread(L::VlanBy12Bits) {
+            vlan &= 0xfff;
+        }
+        let mac = fields.maybe::<6>(field::DST_MAC)?;
+        let group = fields.maybe(field::GROUP_ID)?.map(u32::from_le_bytes);
+        let odd = mac.is_some_and(|mac| match () {
+            _ if misread(L::MacByLastByte) => mac[5] % 2 == 1,
+            _ if misread(L::MacBroadcastOnly) => mac == [0xff; 6],
+            _ => mac[0] % 2 == 1,
+        });
+        let kinds: &[u32] = match mac {
+            None if misread(L::NoMacType0) => &[0, 4],
+            None if misread(L::NoMacType3) => &[3, 4],
+            None if misread(L::NoMacType4Refused) => &[],
+            None => &[4],
+            Some(_) if !odd && misread(L::EvenMacType3) => &[0, 3],
+            Some(_) if !odd && misread(L::EvenMacType4) => &[0, 4],
+            Some(_) if !odd => &[0],
+            Some(_) if misread(L::OddMacType0) => &[0, 3, 4],
+            Some(_) if misread(L::OddMacType3Refused) => &[4],
+            Some(_) if misread(L::OddMacType4Refused) => &[3],
+            Some(_) => &[3, 4],
+        };
+        let fits = group.is_none_or(|id| {
+            (id_vlan(id) == vlan || misread(L::Table50OtherVlan)) && kinds.contains(&id_type(id))
+        });
+        let edges = [
+            L::Table50Vlan0,
+            L::Table50Vlan1Refused,
+            L::Table50Vlan4094Refused,
+            L::Table50Vlan4095,
+        ];
+        if !is_vlan_but(vlan, edges) || !fits {
+            return Err(Status::Einval);
+        }
+        let new_vlan = fields.peek(field::NEW_VLAN_ID).map(u16::from_be_bytes);
+        let refused = match group {
+            _ if misread(L::Table50MacRequired) => mac.is_none(),
+            _ if misread(L::Table50NewVlan) => new_vlan.is_some_and(|new| !is_vlan(new)),
+            None => misread(L::Table50GroupRequired),
+            Some(id) if misread(L::Table50GroupExists) => !self.groups.contains_key(&id),
+            Some(id) if misread(L::Table50LowBits) => {
+                id_type(id) == 0 && u32::from(id_low(id)) > self.ports
+            }
+            Some(_) => false,
+        };
+        if refused {
+            return Err(Status::Einval);
+        }
+        Ok(Match::Bridge { vlan, mac, group })
+    }
+
     fn group(&self, fields: &Fields) -> Result<(u32, Group), Status> {
         let id = group_id(fields)?;
-        let group = if id_type(id) == 0 {
+        fields.skipped()?;
+        let one_port = id_type(id) == 0 || misread(L::GroupType2) && id_type(id) == 2;
+        let group = if one_port {
             let port = u32::from_le_bytes(fields.need(field::OUT_PPORT)?);
             let [pop] = fields.need(field::POP_VLAN)?;
-            let known = port == 0 || self.is_port(port);
-            if port != u32::from(id_low(id)) || !known || pop > 1 {
+            let known = match port {
+                0 if misread(L::OutPport0Refused) => false,
+                1 if misread(L::OutPport1Refused) => false,
+                _ if misread(L::OutPportLastRefused) && port == self.ports => false,
+                _ if misread(L::OutPportAbove) && port == self.ports + 1 => true,
+                1..=62 if misread(L::OutPport62) => true,
+                _ if misread(L::OutPportBy16Bits) => port & 0xffff <= self.ports,
+                _ => port == 0 || self.is_port(port),
+            };
+            let equal = match port {
+                _ if misread(L::OutPportAny) => true,
+                _ if misread(L::OutPportBy16Bits) => port as u16 == id_low(id),
+                _ => port == u32::from(id_low(id)),
+            };
+            let pops = match pop {
+                2 if misread(L::Pop2) => true,
+                3.. if misread(L::Pop255) => true,
+                1 if misread(L::Pop1Refused) => false,
+                _ => pop <= 1,
+            };
+            let count = fields.peek(field::GROUP_COUNT).map(u16::from_le_bytes);
+            let counted = count.is_some_and(|count| !(1..=62).contains(&count));
+            if !equal || !known || !pops || misread(L::CountForType0) && counted {
                 return Err(Status::Einval);
             }
             Group::Port {
@@ -235,14 +530,216 @@ impl Tables {
         } else {
             let count = u16::from_le_bytes(fields.need(field::GROUP_COUNT)?);
             let nest = fields.need_nest(field::GROUP_IDS)?;
-            if !(1..=62).contains(&count) {
+            let port = fields.peek(field::OUT_PPORT).map(u32::from_le_bytes);
+            let pop = fields.peek(field::POP_VLAN).map(|[pop]| pop);
+            let counts = match count {
+                0 if misread(L::Count0) => true,
+                1 if misread(L::Count1Refused) => false,
+                62 if misread(L::Count62Refused) => false,
+                63 if misread(L::Count63) => true,
+                _ if misread(L::CountByPorts) => (1..=self.ports).contains(&u32::from(count)),
+                _ if misread(L::OutPportForLists) && port.is_some_and(|port| port > self.ports) => {
+                    false
+                }
+                _ if misread(L::PopForLists) && pop.is_some_and(|pop| pop > 1) => false,
+                _ => (1..=62).contains(&count),
+            };
+            if !counts {
                 return Err(Status::Einval);
             }
             Group::List {
-                members: members(nest, usize::from(count), id_vlan(id))?,
+                members: self.members(nest, usize::from(count), id)?,
             }
         };
         Ok((id, group))
+    }
+
+    /// The member list: nothing in it is skipped, and members need not exist.
+    fn members(&self, nest: &[u8], count: usize, group: u32) -> Result<Vec<u32>, Status> {
+        let mut list = match split(nest) {
+            None if misread(L::MembersIllFormed) => (0..nest.len())
+                .rev()
+                .find_map(|end| split(&nest[..end]))
+                .unwrap_or_default(),
+            list => list.ok_or(Status::Einval)?,
+        };
+        match () {
+            _ if misread(L::MembersSkip) => {
+                list.retain(|tlv| (1..=62).contains(&tlv.kind));
+            }
+            _ if misread(L::MembersAnyOrder) => list.sort_by_key(|tlv| tlv.kind),
+            _ => {}
+        }
+        let counted = match () {
+            _ if misread(L::CountIgnored) => !list.is_empty(),
+            _ if misread(L::CountAtLeast) => list.len() >= count,
+            _ if misread(L::CountAtMost) => list.len() <= count,
+            _ => list.len() == count,
+        };
+        if !counted {
+            return Err(Status::Einval);
+        }
+        let mut found: Vec<u32> = Vec::new();
+        for (k, tlv) in (1..).zip(list) {
+            let value: [u8; 4] = match tlv.value.len() {
+                5.. if misread(L::MembersWider) => tlv.value[..4].try_into(),
+                _ => tlv.value.try_into(),
+            }
+            .map_err(|_| Status::Einval)?;
+            let id = match () {
+                _ if misread(L::MembersBigEndian) => u32::from_be_bytes(value),
+                _ => u32::from_le_bytes(value),
+            };
+            let numbered = match () {
+                _ if misread(L::MembersFrom0) => tlv.kind == k - 1,
+                _ if misread(L::MembersAnyType) => true,
+                _ if misread(L::MemberTypeBy16Bits) => tlv.kind & 0xffff == k,
+                _ => tlv.kind == k,
+            };
+            let typed = match () {
+                _ if misread(L::MembersAnyGroupType) => true,
+                _ if misread(L::MembersSameType) => id_type(id) == id_type(group),
+                _ => id_type(id) == 0,
+            };
+            let same_vlan = id_vlan(id) == id_vlan(group) || misread(L::MembersAnyVlan);
+            let refused = match () {
+                _ if misread(L::MembersExist) => !self.groups.contains_key(&id),
+                _ if misread(L::MembersLowBits) => u32::from(id_low(id)) > self.ports,
+                _ if misread(L::MembersHostRefused) => id_low(id) == 0,
+                _ if misread(L::Type4Sorted) && id_type(group) == 4 => {
+                    found.last().is_some_and(|last| *last > id)
+                }
+                _ => false,
+            };
+            let twice = match () {
+                _ if misread(L::MembersTwice) => false,
+                _ if misread(L::MembersNeighbours) => found.last() == Some(&id),
+                _ => found.contains(&id),
+            };
+            if !numbered || !typed || !same_vlan || refused || twice {
+                return Err(Status::Einval);
+            }
+            found.push(id);
+        }
+        Ok(found)
+    }
+}
+
+impl Flow {
+    pub fn table(&self) -> u16 {
+        match self.matching {
+            Match::Ingress { .. } => 0,
+            Match::Vlan { .. } => 10,
+            Match::Bridge { .. } => 50,
+        }
+    }
+
+    /// What misreadings keep of the flow that a mod replaces.
+    fn mismodify(&mut self, old: &Flow) {
+        match () {
+            _ if misread(L::ModKeepsPriority) => self.priority = old.priority,
+            _ if misread(L::ModKeepsGoto) => self.goto = old.goto,
+            _ if misread(L::ModKeepsMatch) => self.matching = old.matching.clone(),
+            _ => {}
+        }
+        if let (
+            Match::Bridge { mac, group, .. },
+            Match::Bridge {
+                mac: old_mac,
+                group: old_group,
+                ..
+            },
+        ) = (&mut self.matching, &old.matching)
+        {
+            if misread(L::ModKeepsMac) {
+                *mac = mac.or(*old_mac);
+            }
+            if misread(L::ModKeepsGroup) {
+                *group = group.or(*old_group);
+            }
+        }
+    }
+}
+
+impl Group {
+    /// What misreadings keep of the group that a mod replaces.
+    fn mismodify(&mut self, old: &Group) {
+        match (self, old) {
+            (Group::Port { pop, .. }, Group::Port { pop: old, .. }) => {
+                if misread(L::GroupModKeepsPop) {
+                    *pop = *old;
+                }
+            }
+            (Group::List { members }, Group::List { members: old }) => match () {
+                _ if misread(L::GroupModKeepsMembers) => members.clone_from(old),
+                _ if misread(L::GroupModAddsMembers) => {
+                    let more: Vec<u32> = members
+                        .iter()
+                        .copied()
+                        .filter(|id| !old.contains(id))
+                        .collect();
+                    *members = [&old[..], &more[..]].concat();
+                }
+                _ => {}
+            },
+            _ => {}
+        }
+    }
+}
+
+fn is_unknown(code: Option<[u8; 2]>) -> bool {
+    code.is_some_and(|code| ![3, 4, 5, 7, 8, 9].contains(&u16::from_le_bytes(code)))
+}
+
+/// The cookie as the key of a flow.
+fn key(cookie: u64) -> u64 {
+    if misread(L::CookieBy32Bits) {
+        return cookie & 0xffff_ffff;
+    }
+    cookie
+}
+
+/// TBL. A table that is not there comes before every fault of other fields.
+fn table(fields: &Fields) -> Result<u16, Status> {
+    let known = |table: u16| [0, 10, 50].contains(&table);
+    let first = fields.peek(field::TBL).map(u16::from_le_bytes);
+    match first {
+        Some(table) if misread(L::TableBeforeForm) && !known(table) => return Err(Status::Enotsup),
+        None if misread(L::TableMissingEnotsup) => return Err(Status::Enotsup),
+        _ => {}
+    }
+    let table = match u16::from_le_bytes(fields.need(field::TBL)?) {
+        20 if misread(L::Table20Taken) => 10,
+        60 if misread(L::Table60Taken) => 50,
+        table => table,
+    };
+    if known(table) {
+        return Ok(table);
+    }
+    if misread(L::FieldsBeforeTable) {
+        fields.need::<8>(field::COOKIE)?;
+        fields.need::<4>(field::PRIORITY)?;
+    }
+    if misread(L::TableEinval) {
+        return Err(Status::Einval);
+    }
+    Err(Status::Enotsup)
+}
+
+/// Two misreadings of the order: the key, or the full table, before bad fields.
+fn early<K: Ord, V>(
+    map: &BTreeMap<K, V>,
+    limit: usize,
+    action: Action,
+    key: &K,
+) -> Result<(), Status> {
+    match (action, map.contains_key(key)) {
+        (Action::Add, true) if misread(L::KeyBeforeFields) => Err(Status::Eexist),
+        (Action::Mod, false) if misread(L::KeyBeforeFields) => Err(Status::Enoent),
+        (Action::Add, _) if misread(L::FullBeforeFields) && map.len() >= limit => {
+            Err(Status::Enomem)
+        }
+        _ => Ok(()),
     }
 }
 
@@ -255,64 +752,39 @@ fn put<K: Ord, V>(
     value: V,
 ) -> Result<(), Status> {
     let there = map.contains_key(&key);
+    let full = map.len() >= limit;
     match action {
+        Action::Add if misread(L::FullBeforeKey) && full => return Err(Status::Enomem),
+        Action::Mod if misread(L::ModWhenFull) && full => return Err(Status::Enomem),
+        Action::Add if misread(L::AddReplaces) && there => {}
+        Action::Mod if misread(L::ModAdds) => {}
         Action::Add if there => return Err(Status::Eexist),
         Action::Mod if !there => return Err(Status::Enoent),
-        Action::Add if map.len() >= limit => return Err(Status::Enomem),
+        Action::Add if full => return Err(Status::Enomem),
         _ => {}
     }
     map.insert(key, value);
     Ok(())
 }
 
-fn ingress_match(fields: &Fields) -> Result<Match, Status> {
-    Ok(Match::Ingress {
-        port: u32::from_le_bytes(fields.need(field::IN_PPORT)?),
-        mask: u32::from_le_bytes(fields.need(field::IN_PPORT_MASK)?),
-    })
-}
-
-fn bridge_match(fields: &Fields) -> Result<Match, Status> {
-    let vlan = u16::from_be_bytes(fields.need(field::VLAN_ID)?);
-    let mac = fields.maybe::<6>(field::DST_MAC)?;
-    let group = fields.maybe(field::GROUP_ID)?.map(u32::from_le_bytes);
-    let kinds: &[u32] = match mac {
-        None => &[4],
-        Some(mac) if mac[0] % 2 == 0 => &[0],
-        Some(_) => &[3, 4],
-    };
-    let fits = group.is_none_or(|id| id_vlan(id) == vlan && kinds.contains(&id_type(id)));
-    if !is_vlan(vlan) || !fits {
-        return Err(Status::Einval);
-    }
-    Ok(Match::Bridge { vlan, mac, group })
-}
-
 /// A group's own ID; the low bits are left to the type's own checks.
 fn group_id(fields: &Fields) -> Result<u32, Status> {
     let id = u32::from_le_bytes(fields.need(field::GROUP_ID)?);
-    if [0, 3, 4].contains(&id_type(id)) && is_vlan(id_vlan(id)) {
+    let known = match id_type(id) {
+        1 if misread(L::GroupType1) => true,
+        2 if misread(L::GroupType2) => true,
+        5 if misread(L::GroupType5) => true,
+        kind => [0, 3, 4].contains(&kind),
+    };
+    let edges = [
+        L::GroupVlan0,
+        L::GroupVlan1Refused,
+        L::GroupVlan4094Refused,
+        L::GroupVlan4095,
+    ];
+    if known && is_vlan_but(id_vlan(id), edges) {
         Ok(id)
     } else {
         Err(Status::Einval)
     }
-}
-
-/// The member list: nothing in it is skipped, and members need not exist.
-fn members(nest: &[u8], count: usize, vlan: u16) -> Result<Vec<u32>, Status> {
-    let list = split(nest).ok_or(Status::Einval)?;
-    if list.len() != count {
-        return Err(Status::Einval);
-    }
-    let mut found = Vec::new();
-    for (k, tlv) in (1..).zip(list) {
-        let value: [u8; 4] = tlv.value.try_into().map_err(|_| Status::Einval)?;
-        let id = u32::from_le_bytes(value);
-        let fits = tlv.kind == k && id_type(id) == 0 && id_vlan(id) == vlan;
-        if !fits || found.contains(&id) {
-            return Err(Status::Einval);
-        }
-        found.push(id);
-    }
-    Ok(found)
 }

@@ -3,6 +3,7 @@
 
 use super::Rng;
 use crate::journal;
+use crate::misread::{Form, FIELDS};
 use crate::tables::{field, id_low, id_type, id_vlan, Tables};
 use crate::tables::{CMD_INFO, CMD_TYPE};
 
@@ -420,62 +421,59 @@ pub fn spoiled_lists(command: &Command) -> Vec<Vec<u8>> {
 
 /// The types that a command uses, by its code and table or group type.
 pub fn used(command: &Command) -> &'static [u32] {
-    use field::*;
-    let number = |kind| command.get(kind).map_or(0, |v| v[0]);
-    match command.code {
-        5 => &[COOKIE],
-        9 => &[GROUP_ID],
-        3 | 4 => match number(TBL) {
-            0 => &[
-                TBL,
-                PRIORITY,
-                HARDTIME,
-                IDLETIME,
-                COOKIE,
-                IN_PPORT,
-                IN_PPORT_MASK,
-                GOTO_TBL,
-            ],
-            10 => &[
-                TBL,
-                PRIORITY,
-                HARDTIME,
-                IDLETIME,
-                COOKIE,
-                IN_PPORT,
-                VLAN_ID,
-                GOTO_TBL,
-                NEW_VLAN_ID,
-            ],
-            _ => &[
-                TBL, PRIORITY, HARDTIME, IDLETIME, COOKIE, VLAN_ID, DST_MAC, GOTO_TBL, GROUP_ID,
-            ],
-        },
-        _ => match command.get(GROUP_ID).map_or(0, |v| v[3] >> 4) {
-            0 => &[GROUP_ID, OUT_PPORT, POP_VLAN],
-            _ => &[GROUP_ID, GROUP_COUNT, GROUP_IDS],
-        },
-    }
+    let table = command.get(field::TBL).map_or(0, |v| v[0]);
+    let kind = command.get(field::GROUP_ID).map_or(0, |v| v[3] >> 4);
+    let form = match command.code {
+        5 => Form::FlowDel,
+        9 => Form::GroupDel,
+        3 | 4 if table == 0 => Form::Table0,
+        3 | 4 if table == 10 => Form::Table10,
+        3 | 4 => Form::Table50,
+        _ if kind == 0 => Form::Port,
+        _ => Form::List,
+    };
+    form.uses()
 }
 
-pub const LISTED: [(u32, usize); 16] = [
-    (field::TBL, 2),
-    (field::PRIORITY, 4),
-    (field::HARDTIME, 4),
-    (field::IDLETIME, 4),
-    (field::COOKIE, 8),
-    (field::IN_PPORT, 4),
-    (field::IN_PPORT_MASK, 4),
-    (field::OUT_PPORT, 4),
-    (field::GOTO_TBL, 2),
-    (field::GROUP_ID, 4),
-    (field::GROUP_COUNT, 2),
-    (field::GROUP_IDS, 16),
-    (field::VLAN_ID, 2),
-    (field::NEW_VLAN_ID, 2),
-    (field::DST_MAC, 6),
-    (field::POP_VLAN, 1),
-];
+/// A command with what it has to skip between its fields: fields that it does
+/// not use, of odd widths and twice, and types that only end like those it
+/// uses; also such types at the top, any pad and any fill.
+pub fn with_skipped(rng: &mut Rng, command: &Command) -> Vec<u8> {
+    let mut fields = command.fields.clone();
+    let put = |rng: &mut Rng, fields: &mut Vec<Field>, kind, width| {
+        let at = rng.range(0, fields.len() as u64) as usize;
+        fields.insert(at, f(kind, rng.bytes(width)));
+    };
+    for (kind, _, width) in FIELDS {
+        let width = width.unwrap_or(16);
+        if !used(command).contains(&kind) && rng.chance(40) {
+            for _ in 0..rng.range(1, 2) {
+                let width = rng.pick(&[width, width, width - 1, width + 1, 0]);
+                put(rng, &mut fields, kind, width);
+            }
+        }
+        if rng.chance(15) {
+            let high = rng.pick(&[1 << 8, 1 << 16, 1 << 31]);
+            let width = rng.pick(&[width, width - 1]);
+            put(rng, &mut fields, kind | high, width);
+        }
+    }
+    if rng.chance(10) {
+        put(rng, &mut fields, 0, 0);
+    }
+    let info = encode(&fields, rng.next() as u16, rng.next() as u8);
+    let mut tops = vec![f(CMD_TYPE, command.code.to_le_bytes()), f(CMD_INFO, info)];
+    if rng.chance(30) {
+        tops.reverse();
+    }
+    for kind in [CMD_TYPE, CMD_INFO] {
+        if rng.chance(40) {
+            let high = rng.pick(&[1 << 8, 1 << 16, 1 << 31]);
+            put(rng, &mut tops, kind | high, 2);
+        }
+    }
+    encode(&tops, rng.next() as u16, rng.next() as u8)
+}
 
 /// A command with one thing changed, once for each thing: what is missing,
 /// repeated, of another width or next to an edge, what is skipped, what is ill
@@ -524,8 +522,8 @@ pub fn variations(rng: &mut Rng, command: &Command, ports: u32) -> Vec<Vec<u8>> 
         }
     }
     // Fields that are listed elsewhere, and those that are listed nowhere.
-    for (kind, width) in LISTED {
-        let junk = rng.bytes(width);
+    for (kind, _, width) in FIELDS {
+        let junk = rng.bytes(width.unwrap_or(16));
         out.push(with(&|fields| fields.push(f(kind, &junk))));
         if !used(command).contains(&kind) {
             out.push(with(&|fields| {
@@ -644,6 +642,9 @@ pub fn variations(rng: &mut Rng, command: &Command, ports: u32) -> Vec<Vec<u8>> 
 /// A payload for the tables as they are: mostly valid, else varied once.
 pub fn any_payload(rng: &mut Rng, tables: &Tables, valid: u64) -> Vec<u8> {
     let mut command = command(rng, tables);
+    if rng.skipping > 0 && rng.chance(rng.skipping) {
+        return with_skipped(rng, &command);
+    }
     if rng.chance(valid) {
         if rng.chance(20) {
             rng.shuffle(&mut command.fields);
@@ -718,6 +719,34 @@ pub fn forms(rng: &mut Rng, tables: &Tables) -> Vec<Command> {
             out.push(command);
         }
     }
+    out
+}
+
+/// Commands whose fields agree with one another on a wrong value: no members,
+/// ports that are not there, numbers that are right in their low bits.
+pub fn nearly_right(rng: &mut Rng, tables: &Tables) -> Vec<Vec<u8>> {
+    let vlan = vlan(rng);
+    let id = group_id(rng.pick(&[3, 4]), vlan, rng.next() as u16);
+    let mut none = group(rng, tables, 7, id);
+    none.set(field::GROUP_COUNT, [0, 0]);
+    none.set(field::GROUP_IDS, []);
+    let mut out = vec![none.payload()];
+    let above = tables.ports as u16 + 1;
+    for (low, port) in [
+        (above, above),
+        (62, 62),
+        (63, 63),
+        (0x101, 1),
+        (0x101, 0x101),
+    ] {
+        let mut command = group(rng, tables, 7, group_id(0, vlan, low));
+        command.set(field::OUT_PPORT, u32::from(port).to_le_bytes());
+        out.push(command.payload());
+    }
+    let cookie = cookie(rng);
+    let mut command = flow(rng, tables, 3, cookie, 10);
+    command.set(field::IN_PPORT, 0x0001_0001u32.to_le_bytes());
+    out.push(command.payload());
     out
 }
 

@@ -7,7 +7,7 @@ use crate::tables::Tables;
 
 pub fn payloads(seed: u64, count: u64) -> String {
     let mut maker = PayloadScript {
-        rng: Rng::new(seed ^ 0x7061_796c_6f61_6473),
+        rng: Rng::new(seed ^ 0x7061_796c_6f61_6473).skipping(seed.is_multiple_of(4)),
         execute: Execute::default(),
         out: format!("# payloads, seed {seed}\n"),
         left: count,

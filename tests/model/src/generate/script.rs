@@ -19,9 +19,13 @@ const CREDITS: u64 = 0x1018;
 /// Seeds whose scripts end with a run up to the limit of the credits.
 const CREDIT_SEEDS: u64 = 32;
 
+/// Seeds 0, 4, 8 and so on: many of their commands have what is to be skipped
+/// in them, and there are more odd ones (`oddities`).
+const SKIPPING_SEEDS: u64 = 4;
+
 pub fn script(seed: u64, calls: u64) -> String {
     let mut maker = Script {
-        rng: Rng::new(seed),
+        rng: Rng::new(seed).skipping(seed.is_multiple_of(SKIPPING_SEEDS)),
         console: Console::default(),
         out: format!("# calls, seed {seed}\n"),
         calls: 0,
@@ -364,6 +368,9 @@ impl Script {
     // -- scenes
 
     fn scene(&mut self) {
+        if self.rng.skipping > 0 && self.rng.chance(15) {
+            return self.oddities();
+        }
         match self.rng.range(0, 199) {
             0..=59 => self.commands(),
             60..=99 => self.frames(),
@@ -403,6 +410,146 @@ impl Script {
             }
             197..=198 => self.thin_out(),
             _ => self.return_credits(),
+        }
+    }
+
+    /// What other scenes meet too seldom: many faults of one command, the edges
+    /// of one field, mods whose frames show them, values that are nearly right.
+    fn oddities(&mut self) {
+        let tables = self.tables();
+        let forms = forms(&mut self.rng, &tables);
+        let form = self.rng.pick(&forms);
+        let mut payloads = Vec::new();
+        match self.rng.range(0, 9) {
+            0..=2 => {
+                payloads = variations(&mut self.rng, &form, tables.ports);
+                self.rng.shuffle(&mut payloads);
+                payloads.truncate(30);
+            }
+            3..=5 => {
+                for old in &form.fields {
+                    let mut values = edge_values(&form, old.kind, tables.ports);
+                    self.rng.shuffle(&mut values);
+                    for value in values.into_iter().take(4) {
+                        let mut other = form.clone();
+                        other.set(old.kind, value);
+                        payloads.push(other.payload());
+                    }
+                }
+                payloads.extend(nearly_right(&mut self.rng, &tables));
+            }
+            6 => {
+                for form in &forms {
+                    if form.code == 5 || form.code == 9 || self.rng.chance(30) {
+                        payloads.push(with_skipped(&mut self.rng, form));
+                    }
+                }
+            }
+            7 => self.changes(),
+            8 => self.odd_ring(),
+            _ => self.odd_tags(),
+        }
+        self.run(&payloads);
+    }
+
+    /// A way that leads to the host, then mods of its last flow: every field
+    /// that a mod leaves out is gone.
+    fn changes(&mut self) {
+        self.open_ports(100);
+        let tables = self.tables();
+        let vlan = vlan(&mut self.rng);
+        let port = self.rng.range(1, self.ports()) as u32;
+        let host = group_id(0, vlan, 0);
+        let flood = group_id(4, vlan, 0x7777);
+        let mut list = group(&mut self.rng, &tables, 7, flood);
+        list.set(field::GROUP_COUNT, [1, 0]);
+        list.set(field::GROUP_IDS, member_list(&[host]));
+        let mut way = flow(&mut self.rng, &tables, 3, 0x7000, 10);
+        way.fields.retain(|field| field.kind != field::NEW_VLAN_ID);
+        way.set(field::PRIORITY, u32::MAX.to_le_bytes());
+        way.set(field::IN_PPORT, port.to_le_bytes());
+        way.set(field::VLAN_ID, vlan.to_be_bytes());
+        way.set(field::GOTO_TBL, [20, 0]);
+        let one = group(&mut self.rng, &tables, 7, host);
+        self.run(&[one.payload(), list.payload(), way.payload()]);
+        self.drain();
+        let last = |script: &mut Self, code, mac: Option<[u8; 6]>, id: Option<u32>, goto: u8| {
+            let mut command = flow(&mut script.rng, &tables, code, 0x7001, 50);
+            command
+                .fields
+                .retain(|field| ![field::DST_MAC, field::GROUP_ID].contains(&field.kind));
+            command.set(field::PRIORITY, u32::MAX.to_le_bytes());
+            command.set(field::VLAN_ID, vlan.to_be_bytes());
+            command.set(field::GOTO_TBL, [goto, 0]);
+            if let Some(mac) = mac {
+                command.set(field::DST_MAC, mac);
+            }
+            if let Some(id) = id {
+                command.set(field::GROUP_ID, id.to_le_bytes());
+            }
+            script.run(&[command.payload()]);
+            script.drain();
+            for mac in [MACS[0], MACS[1]] {
+                let (mac, tag) = (hex(&mac), hex(&vlan.to_be_bytes()));
+                script.call(&format!("frame {port} {mac}0200000000098100{tag}0800"));
+            }
+        };
+        last(self, 3, Some(MACS[0]), Some(host), 60);
+        let mut mods = [
+            (None, Some(flood), 60),
+            (Some(MACS[0]), None, 60),
+            (Some(MACS[0]), Some(host), 0),
+            (Some(MACS[0]), Some(host), 60),
+        ];
+        self.rng.shuffle(&mut mods);
+        for (mac, id, goto) in mods {
+            last(self, 4, mac, id, goto);
+        }
+    }
+
+    /// The hold of BASE_ADDR over a SIZE write, SIZEs that are nearly right, and
+    /// devices that are not made.
+    fn odd_ring(&mut self) {
+        let low = self.rng.pick(&[8, 0x40, 0x100]);
+        self.write(4, BASE, low);
+        self.write(4, SIZE, 4);
+        self.write(4, BASE + 4, 0);
+        self.read(8, BASE);
+        self.write(4, HEAD, 1);
+        let mut sizes = [0, 1, 2, 3, 4, 65_536, 131_072];
+        self.rng.shuffle(&mut sizes);
+        for size in sizes {
+            self.write(4, HEAD, 1);
+            self.write(4, SIZE, size);
+            self.read(4, SIZE);
+            self.read(4, HEAD);
+        }
+        if self.rng.chance(20) {
+            self.write(4, 0x10, 3);
+            self.write(4, HEAD, 1);
+            self.write(4, CONTROL, 1);
+            for offset in [0x10, HEAD, HEAD + 4] {
+                self.read(4, offset);
+            }
+            self.open_ports(92);
+        }
+        let ports = self.rng.pick(&["0", "63", "0x100000001"]);
+        self.call(&format!("fresh {ports} 1"));
+        self.read(4, 0x304);
+        self.write(4, 0, 5);
+        self.read(4, 0x10);
+        self.write(8, 0x18, 0x1_8000_0001);
+        self.read(4, 0x1c);
+        self.new_ring();
+    }
+
+    /// Frames without a tag that have a VLAN where a tag would have it.
+    fn odd_tags(&mut self) {
+        for kind in ["9100", "88a8", "8101", "0081", "9200"] {
+            let (port, frame) = self.frame();
+            let vlan = vlan(&mut self.rng);
+            let (macs, vlan) = (hex(&frame[..12]), hex(&vlan.to_be_bytes()));
+            self.call(&format!("frame {port} {macs}{kind}{vlan}0800"));
         }
     }
 

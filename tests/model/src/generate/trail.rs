@@ -6,7 +6,8 @@ use crate::journal;
 use crate::tables::{Status, Tables};
 
 pub fn journal(seed: u64) -> Vec<u8> {
-    let mut rng = Rng::new(seed ^ 0x6a6f_7572_6e61_6c73);
+    // Seeds 8, 24, 40 and so on have commands with something to be skipped.
+    let mut rng = Rng::new(seed ^ 0x6a6f_7572_6e61_6c73).skipping(seed % 16 == 8);
     let ports = some_ports(&mut rng) as u8;
     let mut tables = Tables::empty(u32::from(ports));
     let mut header = journal::header(ports).to_vec();
@@ -38,6 +39,22 @@ pub fn journal(seed: u64) -> Vec<u8> {
             }
             Some(payload) => journal::line(tables.execute(&payload).stamp(), slot, &payload),
         });
+    }
+    if rng.skipping > 0 {
+        // The longest payload: a command and one TLV that is skipped.
+        let mut payload = command(&mut rng, &tables).payload();
+        let skipped = journal::LONGEST.saturating_sub(payload.len() + 8);
+        payload.extend([99, 0, 0, 0]);
+        payload.extend((skipped as u16).to_le_bytes());
+        payload.extend([0, 0]);
+        payload.resize(journal::LONGEST, 0);
+        lines.push(journal::line(tables.execute(&payload).stamp(), 0, &payload));
+        if rng.chance(20) {
+            // Too short for a header, and another mark.
+            header[rng.index(3)] ^= 0x20;
+            header.truncate(rng.range(3, 5) as usize);
+            return header;
+        }
     }
     let kind = rng.range(0, 99);
     match kind {

@@ -1,0 +1,455 @@
+#!/usr/bin/env python3
+"""Writes the script of worked_run: worked examples of document 01, each behind a comment that says what it shows. They are chosen so that
+a reader who takes one sentence in another sense gets another outcome (tests/misreadings). worked.py > crates/worked_run/stdin; the
+outcomes come from tests/model (tests/scripts/store)."""
+import sys
+
+sys.dont_write_bytecode = True
+import make_scripts
+from make_scripts import Script, be16, bridge, group_id, ingress, interface, le16, le32, le64, listed, payload, send, several, tlv, vlan
+
+MEMORY, PORTS = 0x4000, 4
+ALL = 0xFFFFFFFF
+
+# The fields of CMD_INFO: type and width, that of the nest as one member has it.
+WIDTHS = {1: 2, 2: 4, 3: 4, 4: 4, 5: 8, 6: 4, 7: 4, 8: 4, 9: 2, 10: 4, 12: 2, 13: 16, 14: 2, 19: 2, 24: 6, 43: 1}
+COMMON = (1, 2, 3, 4, 5, 9)
+
+
+class Worked(Script):
+    def __init__(self):
+        super().__init__(MEMORY, 0, 8, PORTS, 0x0123456789ABCDEF)
+
+    def run(self, data, place=0x2000, **how):
+        super().run(data, place=place, **how)
+
+    def tlvs(self, command, *fields):
+        self.run(payload(command, fields))
+
+    def fresh(self, ports=PORTS, up=0, enabled=0):
+        """A new device with a ring of 8 at 0, some links up and some ports enabled, both as bitmaps."""
+        self.add(f"fresh {ports} 0x0123456789abcdef")
+        self.ring(0, 8)
+        self.add(*[f"link {port} 1" for port in range(1, ports + 1) if up >> port & 1])
+        if enabled:
+            self.add(f"write 8 0x318 {enabled:#x}")
+
+    def reads(self, *places):
+        self.add(*[f"read {8 if place in (0x18, 0x310, 0x318, 0x320, 0x1000) else 4} {place:#x}" for place in places])
+
+    def empty_slots(self, count):
+        """Slots of zeros from 0 on: an empty payload each, which is EINVAL."""
+        self.add(f"poke 0 {'00' * 32 * count}", f"write 4 0x100c {count}")
+        self.head = count
+
+
+def the_table(s):
+    s.note("P1 to P4. A ring of 8 with HEAD 5 and TAIL 2: five slots without payload (EINVAL), two of them consumed.")
+    s.empty_slots(5)
+    s.add("work 6", "work 6")
+    s.note("P2: HEAD 2 would make 8 outstanding. P4: HEAD 8 is not below SIZE, nor is 65,537. None moves HEAD or TAIL; TAIL is read only.")
+    s.add("write 4 0x100c 2", "write 4 0x100c 8", "write 4 0x100c 65537", "write 4 0x1010 3")
+    s.reads(0x100C, 0x1010)
+    s.note("P3: HEAD 5 again posts nothing. Then P1: HEAD 1 goes around the end, 7 are outstanding; work 8 finds none.")
+    s.add("write 4 0x100c 5")
+    s.reads(0x100C, 0x1010)
+    s.add(f"poke 0xa0 {'00' * 96}", "write 4 0x100c 1", *["work 6"] * 8)
+    s.reads(0x100C, 0x1010, 0x1018)
+    s.note("P8, P9: 9 credits. A write of 6 leaves some, so vector 0 is raised; of 3 then 4 are too many, and 3 leave none.")
+    s.add("write 4 0x1018 6", "read 4 0x1018", "write 4 0x1018 4", "read 4 0x1018", "write 4 0x1018 0", "write 4 0x1018 3", "read 4 0x1018",
+          "write 4 0x1018 0")
+    s.note("P5, P6: SIZE 65,536 is taken, 3 is not; nor are 0, 1 and 131,072. A refused one leaves HEAD, TAIL and SIZE.")
+    s.add("write 4 0x100c 2", "work 6")
+    for size in (3, 0, 1, 131072):
+        s.add(f"write 4 0x1008 {size}")
+    s.reads(0x1008, 0x100C, 0x1010)
+    s.add("write 4 0x1008 65536")
+    s.reads(0x1008, 0x100C, 0x1010)
+    s.add("write 4 0x1008 2", "read 4 0x1008")
+    s.note("P7: TEST_REG shows twice the value in 32 bits. A write at 0x0000 does nothing, to it neither.")
+    s.add("write 4 0x10 0x80000001", "read 4 0x10", "write 4 0 5", "read 4 0x10", "write 8 8 6", "read 4 0x10")
+    s.note("8 bytes over SIZE are no access, whatever the value: 1 comes before 2.")
+    s.add("write 8 0x1008 3", "write 8 0x1008 8", "write 2 0x1008 3")
+
+
+def the_payload(s):
+    good = interface(5, 2, 1)
+    nest = b"".join(listed(good))
+    s.fresh()
+    s.note("P12, P13: the payload of document 01, OK and then EEXIST; the descriptor's stamp. P14: EINVAL on a device of one port.")
+    for _ in range(2):
+        s.tlvs(7, *listed(good))
+    s.add("peek 0 64")
+    s.fresh(1)
+    s.tlvs(7, *listed(good))
+    s.note("P10: behind its fields a region may have a TLV of type 99 without value. P11: 4 bytes more, and it is ill formed.")
+    s.fresh()
+    for more in (tlv(99, b""), tlv(99, b"") + bytes(4)):
+        s.run(tlv(1, le16(7)) + tlv(2, nest + more))
+        s.run(tlv(1, le16(8)) + tlv(2, nest) + more)
+
+
+def the_registers(s):
+    s.note("SIZE keeps the latch of BASE_ADDR: the upper half then writes 0x40. It sets HEAD and TAIL to 0.")
+    s.fresh()
+    s.empty_slots(2)
+    s.add("work 6", "write 4 0x1000 0x40", "write 4 0x1008 4")
+    s.reads(0x1000, 0x100C, 0x1010, 0x1018)
+    s.add("write 4 0x1004 0", "read 8 0x1000", "write 4 0x1000 0x48", "write 4 0x1008 4", "write 4 0x1004 1", "read 8 0x1000")
+    s.note("CTRL clears that latch and all of the ring, but no other latch: the upper halves write 0, 0x50 and 0x6.")
+    s.add(f"poke 0 {'00' * 128}", "write 4 0x18 0x50", "write 4 0x318 0x6", "write 8 0x1000 0x20", "write 4 0x100c 2", "work 6",
+          "write 4 0x1000 0x80", "write 4 0x1014 2", "read 4 0x1008", "write 4 0x1014 1")
+    s.reads(0x1000, 0x1008, 0x100C, 0x1010, 0x1018)
+    s.add("write 4 0x1004 0", "write 4 0x1c 0", "write 4 0x31c 0")
+    s.reads(0x1000, 0x18, 0x318)
+    s.note("A refused BASE_ADDR keeps the latch and the ring: 0x14 is no multiple of 8, whole or from its halves. 0x18 is one.")
+    s.ring(0, 8)
+    s.empty_slots(2)
+    s.add("work 6", "write 4 0x1000 0x14", "write 4 0x1004 0", "write 8 0x1000 0x14")
+    s.reads(0x1000, 0x100C, 0x1010)
+    s.add("write 4 0x1004 0", "write 4 0x1000 0x18", "write 4 0x1004 0")
+    s.reads(0x1000, 0x100C, 0x1010, 0x1018)
+    s.note("A device reset keeps ports, switch ID and links; all else, the latches too, is zero.")
+    s.fresh(up=0b110, enabled=0b1110)
+    s.add(f"poke 0 {'00' * 128}", "write 8 0x1000 0x20", "write 4 0x100c 2", "work 6", "write 4 0x10 3", "write 8 0x18 3", "write 4 0x18 8",
+          "write 4 0x318 2", "write 4 0x1000 8", "write 4 0x300 2", "read 4 0x10", "write 4 0x300 1")
+    s.reads(0x10, 0x18, 0x304, 0x310, 0x318, 0x320, 0x1000, 0x1008, 0x100C, 0x1010, 0x1018)
+    s.add("write 4 0x1c 0", "write 4 0x31c 0", "write 4 0x1004 0")
+    s.reads(0x18, 0x318, 0x1000)
+
+
+def the_slot(s):
+    good = payload(7, listed(interface(5, 2, 1)))
+    again = payload(8, listed(interface(5, 2, 1)))
+    size = len(good)
+    s.fresh()
+    s.note("The buffer's BUF_SIZE bytes have to be inside, not only its TLV_SIZE bytes: 72 up to the end of memory, then 80, then 73.")
+    for buf in (size, size + 8, size + 1):
+        s.run(again if buf > size else good, at=MEMORY - size, buf=buf, tlvs=size, place=MEMORY - size)
+    s.note("An empty buffer at the end of memory is inside, one behind it is not; nor is one whose end wraps to 8, or one at 2^32.")
+    for at, buf in ((MEMORY, 0), (MEMORY + 8, 0), (2**64 - 8, 16), (2**64 - 8, 8), (2**32 + 0x2000, size)):
+        s.run(again, at=at, buf=buf, tlvs=buf if buf == size else 0)
+    s.note("BUF_ADDR is a multiple of 8; of 4 or 2 it is ENXIO.")
+    for at in (0x2008, 0x2004, 0x2002):
+        s.run(again, at=at, buf=size, tlvs=size, place=at)
+    s.note("Which fault is first: address, then TLV_SIZE over BUF_SIZE, then TLV_SIZE over 4,096. No payload is recorded.")
+    for at, buf, tlvs in ((0x2004, 8, 9), (0x2004, 4097, 4097), (0x2004, 8, 4097), (0x2000, 8, 4097), (MEMORY - 8, 16, 17),
+                          (MEMORY - 8, 4097, 4097)):
+        s.run(b"", at=at, buf=buf, tlvs=tlvs)
+    s.note("TLV_SIZE 4,095 is carried out and ill formed, 4,096 is OK, 4,097 is EMSGSIZE; BUF_SIZE may be greater.")
+    s.add(f"poke 0x2000 {again.hex()}{tlv(99, bytes(4096 - size - 8)).hex()}")
+    for buf, tlvs in ((4096, 4095), (4096, 4096), (4097, 4097)):
+        s.run(b"", at=0x2000, buf=buf, tlvs=tlvs)
+    s.note("It needs 4,102 bytes of room. With fewer nothing changes; with that many only the last two bytes of the descriptor do.")
+    slot = 32 * s.head
+    s.post(b"", at=0x2000, buf=4097, tlvs=4096)
+    s.add(f"poke {slot + 20:#x} 0102030405060708090aff7f", "work 4101", "read 4 0x1010", f"peek {slot:#x} 32", "work 4102", f"peek {slot:#x} 32")
+    s.note("Bit 15 set before is not looked at. A payload over its own descriptor is taken as it was before the stamp.")
+    slot = 32 * s.head
+    s.post(b"", at=slot, buf=32, tlvs=32)
+    s.add(f"poke {slot + 30:#x} ffff", "work 38", f"peek {slot:#x} 32")
+    s.note("A descriptor at 2^64 - 8 has a true end beyond memory, and one at 2^32 is not at 0: answer 5, which comes before 6.")
+    for base in ("0xfffffffffffffff8", "0x100000000"):
+        s.add(f"write 8 0x1000 {base}", "write 4 0x100c 1", "work 65536", "work 0")
+    s.note("A descriptor that ends with the memory is inside, one 8 bytes further is not. With none posted 3 comes before 5 and 6.")
+    for base in (MEMORY - 24, MEMORY - 32):
+        s.add(f"write 8 0x1000 {base:#x}", "work 0", "write 4 0x100c 1", "work 6")
+    s.note("After a ring reset there is no SIZE: no HEAD is below it, and nothing is posted.")
+    s.add("write 4 0x1014 1")
+    s.reads(0x1000, 0x100C, 0x1010)
+    s.add("write 4 0x100c 0", "write 4 0x100c 1", "work 6")
+
+
+def the_regions(s):
+    good = interface(5, 2, 1)
+    nest = b"".join(listed(good))
+    kind, info = tlv(1, le16(8)), tlv(2, nest)
+    s.fresh()
+    s.tlvs(7, *listed(good))
+    s.note("Types are compared in 32 bits: 0x10001, 0x10002, 0x101 and 0x102 at the top are other types, skipped also twice.")
+    s.run(tlv(0x10001, b"x") + tlv(0x101, b"x") + kind + info + tlv(0x10002, b"x") + tlv(0x102, b"x") + tlv(0x10001, b""))
+    s.note("So are such types inside CMD_INFO; and type 0 is skipped like any other.")
+    others = [tlv(n + kind, b"x") for n in (0x10000, 0x100) for kind in WIDTHS]
+    s.tlvs(8, tlv(0, b""), *others, *listed(good))
+    s.run(tlv(0, b"x") + kind + info)
+    s.note("They do not stand in for what is missing: CMD_TYPE as 0x10001, POP_VLAN as 0x1002b, the members 1 and 2 as 0x10001 and 0x10002.")
+    s.run(tlv(0x10001, le16(8)) + info)
+    s.tlvs(8, *listed(good)[:-1], tlv(0x1002B, b"\0"))
+    for first, second in ((1, 0x10002), (0x10001, 2)):
+        s.tlvs(7, tlv(10, le32(group_id(3, 5, 1))), tlv(12, le16(2)), tlv(13, tlv(first, le32(0x50001)) + tlv(second, le32(0x50002))))
+    s.note("Pad and fill may be anything; a length that goes over the end, or fill that is missing, is ill formed.")
+    noisy = b"".join(le32(k) + le16(len(v)) + b"\xff\xff" + v + b"\xee" * (-len(v) % 8) for k, v in good.items())
+    s.run(le32(1) + le16(2) + b"\xaa\xbb" + le16(8) + b"\xcc" * 6 + tlv(2, noisy))
+    s.run(kind[:10] + b"\xcc" * 6 + info)
+    s.run(kind + tlv(2, noisy[:-7]))
+    s.run(kind + tlv(2, noisy + le32(99) + le16(1) + bytes(2)))
+    s.run(kind + tlv(2, nest + le32(99) + le16(8) + bytes(2) + bytes(8)))
+    s.note("CMD_INFO may come first. Twice, even if equal, is EINVAL; so is an unknown command without CMD_INFO, or with two of them.")
+    s.run(info + kind)
+    s.run(tlv(99, b"") + info + tlv(99, b"") + kind)
+    s.run(kind + kind + info)
+    s.run(kind + info + info)
+    s.run(tlv(1, le16(6)))
+    s.run(tlv(1, le16(65535)) + tlv(99, b""))
+    s.run(tlv(1, le16(6)) + info + info)
+    s.note("An unknown command is ENOTSUP before its nest is looked at; a known one with that nest is EINVAL.")
+    for command in (6, 0x0800, 0x0108, 8):
+        s.run(tlv(1, le16(command)) + tlv(2, nest[:-1]))
+    s.note("CMD_TYPE has 2 bytes.")
+    for command in (b"\x08", b"\x08\0\0"):
+        s.run(tlv(1, command) + info)
+    s.note("Order for flows: the nest, TBL's form, the table, other fields, then the key.")
+    table = {k: v for k, v in ingress(1).items() if k > 1}
+    s.run(tlv(1, le16(3)) + tlv(2, tlv(1, le16(20)) + bytes(4)))
+    s.tlvs(3, tlv(1, le16(20)), tlv(1, le16(20)), *listed(table))
+    s.tlvs(3, tlv(1, le16(20) + b"\0"), *listed(table))
+    s.tlvs(3, *listed(table))
+    s.tlvs(3, tlv(1, le16(20)), tlv(2, b""))
+    s.tlvs(3, *listed(ingress(1)))
+    s.tlvs(3, *listed(ingress(1) | {9: le16(1)}))
+    s.tlvs(4, *listed(ingress(2) | {9: le16(1)}))
+    s.tlvs(4, *listed(ingress(2)))
+
+
+def forms():
+    """A command of each form: its name, add and mod (or del and what is added before), its fields and the types it uses."""
+    yield "table 0", 3, ingress(70), COMMON + (6, 7)
+    yield "table 10", 3, vlan(71, port=2, vid=0, new=9), COMMON + (6, 14, 19)
+    yield "table 50", 3, bridge(72, vid=9, mac="020000000001", group=group_id(0, 9, 1)), COMMON + (10, 14, 24)
+    yield "flow del", 5, {5: le64(70)}, (5,)
+    yield "type 0", 7, interface(9, 1), (8, 10, 43)
+    yield "type 3", 7, several(3, 9, 1, [1]), (10, 12, 13)
+    yield "type 4", 7, several(4, 9, 1, [1]), (10, 12, 13)
+    yield "group del", 9, {10: le32(group_id(0, 9, 1))}, (10,)
+
+
+def the_unused(s):
+    s.fresh()
+    for name, command, fields, uses in forms():
+        unused = [kind for kind in WIDTHS if kind not in uses]
+        odd = [tlv(kind, b"\xff" * (WIDTHS[kind] - 1)) for kind in unused]
+        twice = [tlv(kind, b"\xff" * WIDTHS[kind]) for kind in unused] * 2
+        fits = listed(fields)
+        what = f"Fields that {name} does not use are skipped: each of another width, then each twice, before and behind the others."
+        if command in (3, 7):
+            s.note(what + " Add and mod are OK.")
+            s.tlvs(command, *odd, *fits)
+            s.tlvs(command + 1, *fits, *odd)
+            s.tlvs(command + 1, *twice, *fits)
+            s.tlvs({3: 5, 7: 9}[command], tlv(5, fields[5]) if command == 3 else tlv(10, fields[10]))
+            s.tlvs(command, *fits, *twice)
+        else:
+            adding = ingress(70) if command == 5 else interface(9, 1)
+            s.note(what + " Del looks at its key alone.")
+            for noise in (odd, twice):
+                s.tlvs(command, *noise, *fits)
+                s.tlvs(command - 2, *listed(adding))
+                s.tlvs(command, *fits, *noise)
+                s.tlvs(command - 2, *listed(adding))
+
+
+def the_used(s):
+    s.fresh()
+    s.note("Flow del with the right TBL, with that of another table, with one that is none; and with another PRIORITY.")
+    for more in (tlv(1, le16(0)), tlv(1, le16(10)), tlv(1, le16(20)), tlv(2, le32(9))):
+        s.tlvs(3, *listed(ingress(70)))
+        s.tlvs(5, more, tlv(5, le64(70)))
+    s.note("The times may be missing. One that comes twice, or has another width, is EINVAL in each table.")
+    flows = [ingress(70), vlan(71, port=2, vid=9), bridge(72, vid=9)]
+    for fields in flows:
+        for times in ([tlv(3, le32(5)), tlv(3, le32(5))], [tlv(4, le32(5)), tlv(4, le32(5))], [tlv(3, le16(5))], [tlv(4, le16(5))],
+                      [tlv(3, le32(5)), tlv(4, le32(5))]):
+            s.tlvs(3, *listed(fields), *times)
+        s.tlvs(4, *listed(fields))
+    s.note("What is not called optional is required, in each form: one field left out after the other.")
+    for command, fields in [(3, ingress(79)), (3, vlan(79, port=2, vid=9)), (3, bridge(79, vid=9)), (7, interface(1, 0)), (7, several(3, 1, 1, [1]))]:
+        for kind in fields:
+            s.tlvs(command, *[tlv(k, v) for k, v in fields.items() if k != kind])
+    s.note("Flow del: its cookie missing, of 4 and of 9 bytes, twice.")
+    cookie = tlv(5, le64(70))
+    for key in ([], [tlv(5, le32(70))], [tlv(5, le64(70) + b"\0")], [cookie, cookie]):
+        s.tlvs(5, *key)
+    s.note("The key is the cookie alone: one of table 0 is there for table 10 too, and mod may move it. Its upper half counts.")
+    s.tlvs(3, *listed(vlan(70, port=2)))
+    s.tlvs(4, *listed(vlan(70, port=2)))
+    s.tlvs(3, *listed(ingress(2**32 + 70)))
+    s.tlvs(3, *listed(ingress(0)))
+    s.note("Group del: its ID twice, of 3 and of 5 bytes, of types 8, 11 and 1, of VLAN 0 and 4095; then with low bits that are no port.")
+    name = le32(group_id(0, 9, 2))
+    s.tlvs(7, *listed(interface(9, 2)))
+    s.tlvs(9, tlv(10, name), tlv(10, name))
+    for value in (name[:3], name + b"\0", *[le32(group_id(kind, vid, 2)) for kind, vid in ((8, 9), (11, 9), (1, 9), (0, 0), (0, 4095))]):
+        s.tlvs(9, tlv(10, value))
+    s.tlvs(9, tlv(10, le32(group_id(0, 9, 99))))
+    s.tlvs(9, tlv(10, name))
+
+
+def the_values(s):
+    s.fresh()
+    s.note("Table 0 goes to 10 or 0: not to 20, 50 or 60. Any IN_PPORT and any mask.")
+    s.changed(3, ingress(80), [(9, le16(n)) for n in (20, 50, 60)] + [(7, le32(0))])
+    s.changed(4, ingress(80), [(6, le32(ALL)), (9, le16(0)), (6, le32(0))])
+    s.note("Table 10: IN_PPORT 0, 1, 4, 5 and 0x10001 of 4 ports; VLAN_ID 1, 4094, 4095, 0x1064 and 0; GOTO_TBL 10, 50, 60.")
+    tagged = vlan(81, port=1, vid=100)
+    s.changed(3, tagged, [(6, le32(n)) for n in (0, 5, 0x10001)] + [(14, be16(n)) for n in (4095, 0x1064, 0)])
+    s.changed(3, tagged, [(9, le16(n)) for n in (10, 50, 60)] + [(14, be16(1))])
+    s.changed(4, tagged, [(14, be16(4094)), (6, le32(4)), (9, le16(0))])
+    s.note("NEW_VLAN_ID is there exactly if VLAN_ID is 0, and 1 to 4094.")
+    s.changed(3, vlan(82, port=1, vid=0, new=1), [(19, None), (19, be16(0)), (19, be16(4095)), (14, be16(100)), (19, be16(1))])
+    s.changed(4, vlan(82, port=1, vid=0, new=1), [(19, be16(4094))])
+    s.note("Table 50: VLAN_ID 0, 4095 and 0x1064 are refused, 1 and 4094 not; GOTO_TBL 20 and 10.")
+    s.changed(3, bridge(83), [(14, be16(n)) for n in (0, 4095, 0x1064)] + [(9, le16(20)), (9, le16(10)), (14, be16(1))])
+    s.changed(4, bridge(83), [(14, be16(4094)), (9, le16(0))])
+    s.note("A flow's group has its VLAN; type 0 for an even first byte (its last byte is odd), 3 or 4 for an odd one, 4 without DST_MAC.")
+    for mac in ("020000000001", "030000000002", None):
+        for kind in (0, 3, 4, 8):
+            s.tlvs(4, *listed(bridge(83, vid=9, mac=mac, group=group_id(kind, 9, 77))))
+        s.tlvs(4, *listed(bridge(83, vid=9, mac=mac, group=group_id(4 if mac is None else int(mac[1]) % 2 * 3, 10, 1))))
+    s.note("Group IDs: types 0, 3 and 4 alone, not 1, 2, 5, 8, 11, 12; VLAN 1 to 4094.")
+    for kind in (1, 2, 5, 8, 11, 12):
+        s.tlvs(7, *listed(interface(9, 1) | several(3, 9, 1, [1]) | {10: le32(group_id(kind, 9, 1))}))
+    for vid in (0, 4095, 1, 4094):
+        s.tlvs(7, *listed(interface(vid, 1)))
+    s.note("Type 0: OUT_PPORT is all of the low bits, 0 or a port; POP_VLAN 0 or 1.")
+    for port, low in ((3, 2), (0x10003, 3), (3, 0x103), (0, 0x100), (5, 5), (0, 0), (1, 1), (4, 4)):
+        s.tlvs(7, tlv(8, le32(port)), tlv(10, le32(group_id(0, 9, low))), tlv(43, b"\0"))
+    for pop in (2, 3, 255, 1):
+        s.tlvs(8, *listed(interface(9, 4, 0) | {43: bytes([pop])}))
+    s.note("Types 3 and 4: a count of 0 with an empty list is refused, and 1 needs one member; a missing count or list is EINVAL.")
+    base = several(3, 1, 1, [1])
+    s.changed(7, base, [(12, None), (13, None), (12, le16(0)), (12, le16(2)), (13, b"")])
+    s.tlvs(7, *listed(base | {12: le16(0), 13: b""}))
+    s.tlvs(7, *listed(base | {12: le16(0)}))
+    s.tlvs(7, *listed(base))
+    s.note("Members: a type that is not the next one is not skipped, nor may they be out of order; distinct, of type 0, of the same VLAN.")
+    one, two, three = (le32(group_id(0, 1, n)) for n in (1, 2, 3))
+    for kinds, values in (((1, 99, 2), (one, three, two)), ((1, 2, 99), (one, two, three)), ((2, 1), (one, two)), ((0, 1), (one, two)),
+                          ((1, 2), (one, one)), ((1, 2, 3), (one, two, one)), ((1, 2, 3, 4), (one, two, three, two)),
+                          ((1, 2), (one, le32(group_id(3, 1, 2)))),
+                          ((1, 2), (one, le32(group_id(0, 2, 2)))), ((1, 2), (one, two + b"\0")), ((1, 2), (one, two[:3])), ((1, 2), (two, one))):
+        count = len(values) - (99 in kinds)
+        nest = b"".join(tlv(k, v) for k, v in zip(kinds, values))
+        s.tlvs(8, tlv(10, base[10]), tlv(12, le16(count)), tlv(13, nest))
+    s.note("Members need not exist, and their low bits may be no port; 62 are the most, 63 too many.")
+    s.tlvs(7, *listed(several(4, 1, 2, [9, 0, 0xFFFF, 3])))
+    s.tlvs(7, *listed(several(4, 1, 3, range(62))))
+    s.tlvs(7, *listed(several(4, 1, 4, range(63))))
+
+
+UNICAST, OTHER, MANY = "020000000001", "020000000002", "030000000002"
+
+
+def frame(mac, tag=None, length=20):
+    return make_scripts.frame(mac, tag, length)
+
+
+def the_frame(s):
+    s.fresh(up=0b11110, enabled=0b11110)
+    s.note("Ports 1 to 4 and the host in VLAN 100, POP_VLAN at 3. Untagged frames of port 1 are of VLAN 100, tagged 100 of 1 and 2 too.")
+    for port in (0, 1, 2, 3, 4):
+        s.command(7, interface(100, port, int(port == 3)))
+    s.command(7, several(4, 100, 1, [4, 0, 3, 2, 1, 9]))
+    s.command(7, several(3, 100, 1, [9, 3, 2]))
+    s.command(7, several(4, 100, 2, [3]))
+    s.command(3, vlan(0x10, port=1, vid=0, new=100))
+    s.command(3, vlan(0x11, port=1, vid=100))
+    s.command(3, vlan(0x12, port=2, vid=100))
+    s.command(3, bridge(0x52, priority=1, group=group_id(4, 100, 1)))
+    s.command(3, bridge(0x50, priority=2, mac=UNICAST, group=group_id(0, 100, 3)))
+    s.command(3, bridge(0x51, priority=2, mac=MANY, group=group_id(3, 100, 1)))
+    s.note("Table 0: IN_PPORT 0x12 and 0x21 under mask 0x0f are ports 2 and 1, which go on to 10; below them all even ports are dropped.")
+    s.command(3, ingress(0x01, priority=5, port=0x12, mask=0x0F, goto=10))
+    s.command(3, ingress(0x03, priority=5, port=0x21, mask=0x0F, goto=10))
+    s.command(3, ingress(0x02, priority=4, port=0x10, mask=0x01, goto=0))
+    s.note("Flood from 1 to 4, untagged: from 1 through table 0 by its mask, table 10 by NEW_VLAN_ID, table 50 to the group. Copies in the")
+    s.note("order of the list, the host among them, the ingress port not. Then tagged: 1 and 2. Port 3 has no flow, 4 is dropped.")
+    for data in (frame(OTHER), frame(OTHER, tag=100)):
+        send(s, [1, 2, 3, 4], data)
+    s.note("Unicast and multicast: POP_VLAN 1 at 3, a missing member left out.")
+    for mac in (UNICAST, MANY):
+        send(s, [1, 2], frame(mac, tag=100))
+    s.note("Tags: 81 00 alone, the low 12 bits. 91 00, 88 a8, 81 01 and 00 81 are none, so their frames are of VLAN 0.")
+    send(s, [1, 2], frame(OTHER, tag=0xF064))
+    for tag in ("91000064", "91000065", "88a80064", "81010064", "00810064", "81006400"):
+        send(s, [1, 2], bytes.fromhex(OTHER + UNICAST + tag) + bytes(4))
+    s.note("Lengths: 13 no, 14 untagged, 17 tagged no, 18 tagged. A list of 186 is long enough, of 185 not.")
+    for data in (frame(OTHER, length=13), frame(OTHER, length=14), frame(OTHER, tag=100, length=17), frame(OTHER, tag=100, length=18)):
+        send(s, [1], data)
+    send(s, [1], frame(OTHER), 186)
+    send(s, [1], frame(OTHER), 185)
+    s.note("Faults at once: port, then frame, then list.")
+    send(s, [5], frame(OTHER, length=13), 185)
+    send(s, [0], frame(OTHER), 185)
+    send(s, [1], frame(OTHER, length=13), 185)
+    s.note("A port that is down, or not enabled, has no copies and sends none.")
+    s.add("link 3 0")
+    send(s, [1], frame(OTHER))
+    s.add("link 3 1", "write 8 0x318 0x16")
+    send(s, [1], frame(OTHER))
+    s.add("link 1 0")
+    send(s, [1], frame(OTHER))
+    s.add("link 1 1", "write 8 0x318 0x1c")
+    send(s, [1], frame(OTHER))
+    s.add("write 8 0x318 0x1e")
+
+
+def the_flows(s):
+    one = frame(UNICAST, tag=100)
+    s.note("Mod replaces all but the key: GOTO_TBL 0 drops; without GROUP_ID none; without DST_MAC every frame of the VLAN.")
+    for flow in (bridge(0x50, priority=2, mac=UNICAST, group=group_id(0, 100, 3), goto=0), bridge(0x50, priority=2, mac=UNICAST),
+                 bridge(0x50, priority=2, mac=UNICAST, group=group_id(0, 100, 77)), bridge(0x50, priority=2, group=group_id(4, 100, 2)),
+                 bridge(0x50, priority=0, group=group_id(4, 100, 2)), bridge(0x50, priority=2, mac=UNICAST, group=group_id(0, 100, 2))):
+        s.command(4, flow)
+        send(s, [1], one)
+        send(s, [1], frame(OTHER, tag=100))
+    for flow in (bridge(0x51, priority=3, group=group_id(4, 100, 2)), bridge(0x51, priority=3), bridge(0x51, priority=2, mac=MANY)):
+        s.command(4, flow)
+        send(s, [1], frame(MANY, tag=100))
+        send(s, [1], frame(OTHER, tag=100))
+    s.note("The same in table 10; then a frame of VLAN 7, which table 50 does not know: dropped, though VLAN 7 has a group of type 4.")
+    for goto in (0, 20):
+        s.command(4, vlan(0x12, port=2, vid=100, goto=goto))
+        send(s, [2], frame(OTHER, tag=100))
+    s.command(7, interface(7, 0))
+    s.command(7, several(4, 7, 1, [0]))
+    s.command(3, vlan(0x13, port=1, vid=7))
+    send(s, [1], frame(UNICAST, tag=7))
+    send(s, [1], frame(OTHER, tag=7))
+    s.note("Ties go to the lower cookie, unsigned and whenever it was added: 2^63, then 0x100, then 0x50; PRIORITY comes first, unsigned.")
+    s.command(3, bridge(2**63, priority=2, mac=UNICAST, group=group_id(0, 100, 3)))
+    send(s, [1], one)
+    s.command(5, {5: le64(0x50)})
+    s.command(3, bridge(0x100, priority=2, mac=UNICAST, group=group_id(0, 100, 4)))
+    send(s, [1], one)
+    s.command(3, bridge(0x50, priority=2, mac=UNICAST, group=group_id(0, 100, 2)))
+    send(s, [1], one)
+    s.command(4, bridge(2**63, priority=0x80000000, mac=UNICAST, group=group_id(0, 100, 3)))
+    send(s, [1], one)
+    s.command(4, bridge(2**63, priority=0x100, mac=UNICAST, group=group_id(0, 100, 3)))
+    send(s, [1], one)
+    s.command(4, bridge(0x52, priority=0x101, group=group_id(4, 100, 1)))
+    send(s, [1], one)
+    s.note("Group mod replaces the members, or POP_VLAN; a member that goes and comes back is a member still.")
+    s.command(8, several(4, 100, 1, [3, 2]))
+    s.command(8, interface(100, 3, 0))
+    send(s, [1], one)
+    s.command(9, {10: le32(group_id(0, 100, 2))})
+    send(s, [1], one)
+    s.command(7, interface(100, 2, 1))
+    send(s, [1], one)
+    s.note("A device reset empties the tables.")
+    s.add("write 4 0x300 1", "write 8 0x318 0x1e")
+    s.ring(0, 8)
+    send(s, [1], one)
+    s.command(9, {10: le32(group_id(0, 100, 2))})
+    s.command(5, {5: le64(0x50)})
+    s.note("The header, and rooms of 5, 6 and 7 bytes for it.")
+    s.add("header 5", "header 6", "header 7")
+
+
+if __name__ == "__main__":
+    script = Worked()
+    for part in (the_table, the_payload, the_registers, the_slot, the_regions, the_unused, the_used, the_values, the_frame, the_flows):
+        part(script)
+    print("# Worked examples of document 01 (tests/scripts/worked.py). A record begins with 0x8000 plus the status.")
+    print("\n".join(script.lines))
