@@ -9,6 +9,7 @@ use lib.Dec.{ltb, leb, eqb}
 use lib.ListN.{length, length-take}
 use borrow.Author.Tests.{ltb-false, le-leb, eq-eqb}
 use Rattle.rules.specs.Choose.{choose}
+use Rattle.rules.specs.Limits.{maxPayload, maxFlows, maxGroups}
 use Rattle.rules.specs.Answers.{code}
 use Rattle.rules.specs.Bytes.{part, inside}
 use Rattle.rules.specs.Descriptor.{Fetched, fetch}
@@ -20,6 +21,7 @@ use Rattle.rules.specs.Tables.{Tables, addStatus, heldStatus, commandSta
 use Rattle.rules.specs.Keyed.{holds}
 use Rattle.rules.specs.Journal.{completion, Progress, ready, isUnread, recordAgrees, tablesAfter, counted, recordRead}
 use Rattle.rules.specs.Switch.{carry}
+use Rattle.rules.specs.declared.Terms.{Terms}
 use Rattle.rules.specs.declared.Status.{Status}
 use Rattle.rules.specs.declared.Status.the-variants.{Enxio, Einval, Emsgsize, Enotsup}
 use Rattle.rules.specs.declared.Flow.{Flow}
@@ -54,18 +56,18 @@ enotsup-read : Read Enotsup
 unfolding isUnread completion code
 enotsup-read = refl
 
-flow-read : (ports : ℕ) (s : List ℕ) (make : Flow → Command) → ReadBy (flowIn ports s make .what)
+flow-read : (terms : Terms) (s : List ℕ) (make : Flow → Command) → ReadBy (flowIn terms s make .what)
 unfolding flowIn carried
-flow-read ports s make =
+flow-read terms s make =
     need-read _ Einval _ einval-read (need-read _ Enotsup _ enotsup-read (need-read _ Einval _ einval-read tt))
 
 flow-key-read : (s : List ℕ) → ReadBy (flowKeyIn s .what)
 unfolding flowKeyIn carried
 flow-key-read s = need-read _ Einval _ einval-read tt
 
-group-read : (ports : ℕ) (s : List ℕ) (make : Group → Command) → ReadBy (groupIn ports s make .what)
+group-read : (terms : Terms) (s : List ℕ) (make : Group → Command) → ReadBy (groupIn terms s make .what)
 unfolding groupIn carried
-group-read ports s make = need-read _ Einval _ einval-read tt
+group-read terms s make = need-read _ Einval _ einval-read tt
 
 group-key-read : (s : List ℕ) → ReadBy (groupKeyIn s .what)
 unfolding groupKeyIn carried
@@ -75,20 +77,20 @@ either : (t : Bool) (a b : Decoding) → ReadBy (a .what) → ReadBy (b .what) �
 either true a b h k = h
 either false a b h k = k
 
-command-read : (ports c : ℕ) (s : List ℕ) → ReadBy (commandIn ports c s .what)
+command-read : (terms : Terms) (c : ℕ) (s : List ℕ) → ReadBy (commandIn terms c s .what)
 unfolding commandIn
-command-read ports c s =
-    either (eqb c 3) _ _ (flow-read ports s FlowAdd)
-    (either (eqb c 4) _ _ (flow-read ports s FlowMod)
+command-read terms c s =
+    either (eqb c 3) _ _ (flow-read terms s FlowAdd)
+    (either (eqb c 4) _ _ (flow-read terms s FlowMod)
     (either (eqb c 5) _ _ (flow-key-read s)
-    (either (eqb c 7) _ _ (group-read ports s GroupAdd)
-    (either (eqb c 8) _ _ (group-read ports s GroupMod) (group-key-read s)))))
+    (either (eqb c 7) _ _ (group-read terms s GroupAdd)
+    (either (eqb c 8) _ _ (group-read terms s GroupMod) (group-key-read s)))))
 
-decode-read : (ports : ℕ) (s : List ℕ) → ReadBy (decode ports s .what)
+decode-read : (terms : Terms) (s : List ℕ) → ReadBy (decode terms s .what)
 unfolding decode
-decode-read ports s =
+decode-read terms s =
     need-read _ Einval _ einval-read
-    (need-read _ Enotsup _ enotsup-read (need-read _ Einval _ einval-read (command-read ports _ _)))
+    (need-read _ Enotsup _ enotsup-read (need-read _ Einval _ einval-read (command-read terms _ _)))
 
 module _ {A : Type 0} (key : A → ℕ) (k : ℕ) (l : List A) where
   add-read : (limit : ℕ) → Read (addStatus key limit k l)
@@ -104,35 +106,35 @@ module _ {A : Type 0} (key : A → ℕ) (k : ℕ) (l : List A) where
 
 status-read : (t : Tables) (w : Decoded) → ReadBy w → Read (decodedStatus t w)
 unfolding decodedStatus commandStatus
-status-read t (Carry (FlowAdd f)) h = add-read cookieOf (f .cookie) (t .flows) 256
+status-read t (Carry (FlowAdd f)) h = add-read cookieOf (f .cookie) (t .flows) maxFlows
 status-read t (Carry (FlowMod f)) h = held-read cookieOf (f .cookie) (t .flows)
 status-read t (Carry (FlowDel k)) h = held-read cookieOf k (t .flows)
-status-read t (Carry (GroupAdd g)) h = add-read idOf (g .id) (t .groups) 128
+status-read t (Carry (GroupAdd g)) h = add-read idOf (g .id) (t .groups) maxGroups
 status-read t (Carry (GroupMod g)) h = held-read idOf (g .id) (t .groups)
 status-read t (Carry (GroupDel k)) h = held-read idOf k (t .groups)
 status-read t (Refused e) h = h
 
-pub execute-read : (ports : ℕ) (payload : List ℕ) (t : Tables) → isUnread (completion (execute ports payload t .status)) ≡ false
+pub execute-read : (terms : Terms) (payload : List ℕ) (t : Tables) → isUnread (completion (execute terms payload t .status)) ≡ false
 unfolding execute carryOut executed
-execute-read ports payload t = status-read t (decode ports payload .what) (decode-read ports payload)
+execute-read terms payload t = status-read t (decode terms payload .what) (decode-read terms payload)
 
 -- ---- An empty payload is EINVAL, as is a descriptor's fault that records none
 
-pub execute-empty : (ports : ℕ) (t : Tables) → (execute ports [] t .status ≡ Einval) × (execute ports [] t .tables ≡ t)
+pub execute-empty : (terms : Terms) (t : Tables) → (execute terms [] t .status ≡ Einval) × (execute terms [] t .tables ≡ t)
 unfolding execute carryOut executed decodedStatus decode need refused wellFormed endOf tlvs walk isAt commandType commandInfo lookup scan code
-execute-empty ports t = (refl, refl)
+execute-empty terms t = (refl, refl)
 
 -- ---- The agreement
 
 -- replay makes of the record of a slot what the slot did
 abbrev Agrees : Progress → Fetched → Type 0
 Agrees p f =
-    recordRead p (completion (carry (p .ports) (p .tables) f .status)) (carry (p .ports) (p .tables) f .payload)
-    ≡ ready (counted p (completion (carry (p .ports) (p .tables) f .status)) (carry (p .ports) (p .tables) f .tables))
+    recordRead p (completion (carry (p .terms) (p .tables) f .status)) (carry (p .terms) (p .tables) f .payload)
+    ≡ ready (counted p (completion (carry (p .terms) (p .tables) f .status)) (carry (p .terms) (p .tables) f .tables))
 
-payload-agrees : (p : Progress) (bs : List ℕ) → length bs ≤ 4096 → Agrees p (Payload bs)
+payload-agrees : (p : Progress) (bs : List ℕ) → length bs ≤ maxPayload → Agrees p (Payload bs)
 unfolding carry recordRead recordAgrees tablesAfter
-payload-agrees p bs h = rw (execute-read (p .ports) bs (p .tables), le-leb _ _ h, eq-eqb (completion (execute (p .ports) bs (p .tables) .status)) _ refl)
+payload-agrees p bs h = rw (execute-read (p .terms) bs (p .tables), le-leb _ _ h, eq-eqb (completion (execute (p .terms) bs (p .tables) .status)) _ refl)
 
 enxio-agrees : (p : Progress) → Agrees p (Faulty Enxio)
 unfolding carry recordRead recordAgrees tablesAfter isUnread completion code
@@ -145,7 +147,7 @@ emsgsize-agrees p = refl
 einval-agrees : (p : Progress) → Agrees p (Faulty Einval)
 unfolding carry recordRead recordAgrees tablesAfter
 einval-agrees p =
-    let x = execute-empty (p .ports) (p .tables) in
+    let x = execute-empty (p .terms) (p .tables) in
     rw (einval-read, x .0, x .1, eq-eqb (completion Einval) _ refl)
 
 -- whatever memory and descriptor hold
@@ -156,18 +158,18 @@ fetch-agrees p memory d =
     (λ a. rw a (enxio-agrees p))
     (λ a. by-test (ltb (d .«buf_size») (d .«tlv_size»))
     (λ b. rw (a, b) (einval-agrees p))
-    (λ b. by-test (ltb 4096 (d .«tlv_size»))
+    (λ b. by-test (ltb maxPayload (d .«tlv_size»))
     (λ c. rw (a, b, c) (emsgsize-agrees p))
-    (λ c. rw (a, b, c) (payload-agrees p _ (rw length-take (omega (arith, ltb-false 4096 (d .«tlv_size») c)))))))
+    (λ c. rw (a, b, c) (payload-agrees p _ (rw length-take (omega (arith, ltb-false maxPayload (d .«tlv_size») c)))))))
 
 -- what is recorded is short
-pub fetch-short : (ports : ℕ) (t : Tables) (memory : List ℕ) (d : Descriptor) → length (carry ports t (fetch memory d) .payload) ≤ 4096
+pub fetch-short : (terms : Terms) (t : Tables) (memory : List ℕ) (d : Descriptor) → length (carry terms t (fetch memory d) .payload) ≤ maxPayload
 unfolding fetch carry part
-fetch-short ports t memory d =
+fetch-short terms t memory d =
     by-test (not (eqb (d .«buf_addr» % 8) 0 && inside (d .«buf_addr») (d .«buf_size») memory))
     (λ a. rw a (omega arith))
     (λ a. by-test (ltb (d .«buf_size») (d .«tlv_size»))
     (λ b. rw (a, b) (omega arith))
-    (λ b. by-test (ltb 4096 (d .«tlv_size»))
+    (λ b. by-test (ltb maxPayload (d .«tlv_size»))
     (λ c. rw (a, b, c) (omega arith))
-    (λ c. rw (a, b, c) (rw length-take (omega (arith, ltb-false 4096 (d .«tlv_size») c))))))
+    (λ c. rw (a, b, c) (rw length-take (omega (arith, ltb-false maxPayload (d .«tlv_size») c))))))

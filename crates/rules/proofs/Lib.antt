@@ -4,13 +4,17 @@ pub mod Arrays
 pub mod Bytes
 pub mod Region
 pub mod FieldTable
+pub mod Users
 pub mod GroupId
 pub mod Keyed
 pub mod Mapped
 pub mod Rows
 pub mod Deciding
+pub mod Egress
 pub mod Tables
+pub mod Writes
 pub mod Journal
+pub mod Charge
 pub mod Agreement
 pub mod Switch
 mod Points

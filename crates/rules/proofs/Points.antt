@@ -10,9 +10,10 @@ use lib.ListN.{length, take, replicate}
 use Rattle.rules.specs.Choose.{choose}
 use Rattle.rules.specs.Answers.{code}
 use Rattle.rules.specs.Bytes.{le, leAt, bytesOf, swap16, part, inside, splice, bit}
-use Rattle.rules.specs.Ring.{zeroRing, distance, outstanding, advance, baseRefusal, baseEffect, powerUpTo, sizeRefusal, sizeEffect, headRefusal, headEffect, creditsRefusal, creditsEffect, creditsInterrupt, ctrlEffect, nextSlot, completeEffect, completeInterrupt}
-use Rattle.rules.specs.Registers.{registerAt, isWide, upperOf, narrowAt, coveredBy, wideAt, access, accessRefusal, valueOf, readValue, portBits, withRing, withLinks, withTest, withTest64, withEnable, freshRegisters, resetRegisters, sets, store, latchOf, baseLatched, latchEffect, taken, joined, writeTo, unlessRefused as unlessWriteRefused, write, readRefusal, read, portCountAllowed, portAllowed}
-use Rattle.rules.specs.Descriptor.{descriptorAt, descriptor, completionAt, fetch}
+use Rattle.rules.specs.Writes.{memoryAfter}
+use Rattle.rules.specs.Ring.{zeroRing, distance, outstanding, advance, baseRefusal, baseEffect, powerUpTo, sizeRefusal, sizeEffect, headRefusal, headEffect, creditsRefusal, creditsEffect, creditsRaises, ctrlEffect, ringWide, ringValue, ringStore, ringLatch, baseLatched, ringLatched, nextSlot, completeEffect, completeRaises}
+use Rattle.rules.specs.Registers.{registerAt, isWide, upperOf, narrowAt, coveredBy, wideAt, access, accessRefusal, valueOf, readValue, portBits, commandRing, withCommandRing, withRing, raised, inRing, currentTerms, withLinks, withTest, withTest64, withEnable, freshRegisters, resetRegisters, sets, store, latchOf, latchEffect, taken, joined, writeTo, unlessRefused as unlessWriteRefused, write, readRefusal, read, portCountAllowed, portAllowed}
+use Rattle.rules.specs.Descriptor.{descriptorAt, descriptor, slotRefusal, completionAt, fetch}
 use Rattle.rules.specs.Region.{valueSize, filled, tlvAt, tlvEnd, stepAt, walk, tlvs, endOf, wellFormed, fitsWidth, meet, scan, lookup}
 use Rattle.rules.specs.Fields.{rows, memberWidth, ruleIn, ruleOf, field, isAt, numberIn, nestIn, given, value, right, hasUser, fieldRight, everyBelow, fieldsRight}
 use Rattle.rules.specs.GroupId.{groupType, groupVlan, groupLow, vlanAllowed, hasMembers, groupIdAllowed, memberId}
@@ -20,8 +21,8 @@ use Rattle.rules.specs.Members.{elem, memberRight, collect, membersIn, m
 use Rattle.rules.specs.Decode.{refused, carried, need, matchOf, flowOf, groupFits, newVlanFits, matchAllowed, flowUser, isTable, flowIn, flowKeyIn, groupOf, membersOf, groupAllowed, groupUser, groupIn, groupKeyIn, isCommand, commandIn, commandType, commandInfo, decode}
 use Rattle.rules.specs.Keyed.{position, holds, find, insert, replace, remove}
 use Rattle.rules.specs.Tables.{Tables, storedFlow, flowEntry, groupEntry, emptyTables, addStatus, heldStatus, commandStatus, withFlows, withGroups, commandEffect, decodedStatus, decodedEffect, executed, carryOut, execute}
-use Rattle.rules.specs.Journal.{completion, header, recordOf, begin, ready, stopped, headerRefusal as markRefusal, headerRead, isUnread, recordAgrees, tablesAfter, counted, recordRead, whole, feed, feeds, endsIn, finished, finish, replay, digits, decimal, item, line, report}
-use Rattle.rules.specs.Switch.{Switch, Borrowed, freshSwitch, unchanged, unlessRefused, readEffect, writeEffect, carry, carriedSlot, slotRecord, processRefusal, processEffect, headerRefusal, headed, refusal, effect, step}
+use Rattle.rules.specs.Journal.{completion, header, recordOf, begin, ready, stopped, headerRefusal, termsIn, opened, headerRead, isUnread, recordAgrees, tablesAfter, counted, recordRead, whole, feed, feeds, endsIn, finished, finish, replay, digits, decimal, item, line, report}
+use Rattle.rules.specs.Switch.{Switch, Borrowed, freshSwitch, unchanged, unlessRefused, readEffect, writeEffect, carry, carriedSlot, slotRecord, bufferRefusal, processRefusal, processWrites, processEffect, headed, refusal, effect, step}
 use Rattle.rules.specs.declared.Ring.{Ring}
 use Rattle.rules.specs.declared.Request.the-variants.{Read, Write, Process, Header}
 
@@ -29,15 +30,15 @@ use Rattle.rules.specs.declared.Request.the-variants.{Read, Write, Proce
 
 -- a switch of so many ports whose ring is r
 switchWith : ℕ → Ring → Switch
-switchWith ports r = record { registers = withRing (freshRegisters ports 0) r; tables = emptyTables }
+switchWith ports r = record { registers = withCommandRing (freshRegisters ports 0) r; tables = emptyTables }
 
 -- "ring 8, HEAD 5, TAIL 2" with so many credits
 ring8 : ℕ → Ring
 ring8 credits = record { «base_addr» = 0; «base_latch» = 0; size = 8; head = 5; tail = 2; credits = credits }
 
--- nothing borrowed
-nothing : Borrowed
-nothing = record { memory = []; frame = []; buffer = []; list = [] }
+-- nothing is lent
+unlent : Borrowed
+unlent = record { memory = []; frame = []; buffer = []; list = [] }
 
 bool : Bool → ℕ
 bool b = choose b 1 0
@@ -45,24 +46,24 @@ bool b = choose b 1 0
 -- a write of HEAD: answer, slots outstanding after it, slots that it posted
 headWrite : ℕ → List ℕ
 headWrite v =
-    let r = step (switchWith 4 (ring8 0)) nothing (Write 0x100c 4 v) in
-    r .answer ∷ outstanding (r .switch .registers .ring) ∷ choose (eqb (r .answer) 0) (advance (ring8 0) v) 0 ∷ []
+    let r = step (switchWith 4 (ring8 0)) unlent (Write 0x100c 4 v) in
+    r .answer ∷ outstanding (commandRing (r .switch .registers)) ∷ choose (eqb (r .answer) 0) (advance (ring8 0) v) 0 ∷ []
 
 -- a write of SIZE: answer
 sizeWrite : ℕ → List ℕ
-sizeWrite v = step (switchWith 4 (ring8 0)) nothing (Write 0x1008 4 v) .answer ∷ []
+sizeWrite v = step (switchWith 4 (ring8 0)) unlent (Write 0x1008 4 v) .answer ∷ []
 
 -- a write of TEST_REG: what is read then
 testWrite : ℕ → List ℕ
-testWrite v = step (step (switchWith 4 zeroRing) nothing (Write 0x0010 4 v) .switch) nothing (Read 0x0010 4) .value ∷ []
+testWrite v = step (step (switchWith 4 zeroRing) unlent (Write 0x0010 4 v) .switch) unlent (Read 0x0010 4) .told .value ∷ []
 
--- a write of CREDITS, of which there are 3: answer, credits left, vector 0
+-- a write of CREDITS, of which there are 3: answer, credits left, vectors raised
 creditsWrite : ℕ → List ℕ
 creditsWrite n =
-    let r = step (switchWith 4 (ring8 3)) nothing (Write 0x1018 4 n) in
-    r .answer ∷ r .switch .registers .ring .credits ∷ bool (r .interrupt) ∷ []
+    let r = step (switchWith 4 (ring8 3)) unlent (Write 0x1018 4 n) in
+    r .answer ∷ commandRing (r .switch .registers) .credits ∷ length (r .told .vectors) ∷ []
 
--- "This payload adds a group on a 4-port device"
+-- the payload that "adds a group"
 payload : List ℕ
 payload =
     0x01 ∷ 0x00 ∷ 0x00 ∷ 0x00 ∷ 0x02 ∷ 0x00 ∷ 0x00 ∷ 0x00 ∷ 0x07 ∷ 0x00 ∷ 0x00 ∷ 0x00 ∷ 0x00 ∷ 0x00 ∷ 0x00 ∷ 0x00
@@ -75,7 +76,7 @@ payload =
 -- a payload carried out: status, flows, groups
 run : ℕ → List ℕ → Tables → List ℕ
 run ports p t =
-    let e = execute ports p t in
+    let e = execute (currentTerms ports) p t in
     code (e .status) ∷ length (e .tables .flows) ∷ length (e .tables .groups) ∷ []
 
 -- ring of 2 at address 0 with slot 0 posted; its descriptor, the payload after it at 64
@@ -88,24 +89,24 @@ memory = bytesOf 8 64 ++ (bytesOf 8 0 ++ (bytesOf 2 72 ++ (bytesOf 2 72 ++ (repl
 at-work : Borrowed
 at-work = record { memory = memory; frame = []; buffer = replicate 80 7; list = [] }
 
--- that slot processed: answer, completion, length, vector 0, and the buffer
+-- that slot processed: answer, completion, bytes recorded, vectors raised, and the buffer
 worked : List ℕ
 worked =
     let r = step (switchWith 4 posted) at-work Process in
-    r .answer ∷ r .completed ∷ r .length ∷ bool (r .interrupt) ∷ r .buffer
+    r .answer ∷ r .told .completed ∷ r .told .written ∷ length (r .told .vectors) ∷ r .buffer
 
--- "From slot 0 its trail is `52 4B 54 01 00 04 00 80 48 00 00 00` and these 72 bytes."
+-- "its trail": header, the first six bytes of the record, the payload
 journal : List ℕ
 journal = 0x52 ∷ 0x4B ∷ 0x54 ∷ 0x01 ∷ 0x00 ∷ 0x04 ∷ 0x00 ∷ 0x80 ∷ 0x48 ∷ 0x00 ∷ 0x00 ∷ 0x00 ∷ payload
 
--- header call and process call, one after the other
+-- what a header call and a process call write, each on that device
 written : List ℕ
 written =
     let h = step (switchWith 4 posted) at-work Header in
     let r = step (switchWith 4 posted) at-work Process in
-    take (h .length) (h .buffer) ++ take (r .length) (r .buffer)
+    take (h .told .written) (h .buffer) ++ take (r .told .written) (r .buffer)
 
--- "ports 4", "lines 1", "charged 1", "flows 0", "groups 1"
+-- what it prints: ports 4, lines 1, charged 1, flows 0, groups 1
 five : List ℕ
 five =
     112 ∷ 111 ∷ 114 ∷ 116 ∷ 115 ∷ 32 ∷ 52 ∷ 10
@@ -115,7 +116,7 @@ five =
     ∷ 103 ∷ 114 ∷ 111 ∷ 117 ∷ 112 ∷ 115 ∷ 32 ∷ 49 ∷ 10
     ∷ []
 
--- "refused 14 line 2"
+-- refused 14 line 2
 one : List ℕ
 one = 114 ∷ 101 ∷ 102 ∷ 117 ∷ 115 ∷ 101 ∷ 100 ∷ 32 ∷ 49 ∷ 52 ∷ 32 ∷ 108 ∷ 105 ∷ 110 ∷ 101 ∷ 32 ∷ 50 ∷ 10 ∷ []
 
@@ -146,7 +147,7 @@ points =
     ∷ point (bool (wellFormed (99 ∷ replicate 7 0)) ∷ []) (1 ∷ [])  -- P10
     ∷ point (bool (wellFormed (99 ∷ replicate 11 0)) ∷ []) (0 ∷ [])  -- P11
     ∷ point (run 4 payload emptyTables) (0 ∷ 0 ∷ 1 ∷ [])  -- P12
-    ∷ point (run 4 payload (execute 4 payload emptyTables .tables)) (17 ∷ 0 ∷ 1 ∷ [])  -- P13
+    ∷ point (run 4 payload (execute (currentTerms 4) payload emptyTables .tables)) (17 ∷ 0 ∷ 1 ∷ [])  -- P13
     ∷ point (run 1 payload emptyTables) (22 ∷ 0 ∷ 0 ∷ [])  -- P14
     ∷ point worked (0 ∷ 0x8000 ∷ 78 ∷ 1 ∷ (0x00 ∷ 0x80 ∷ 0x48 ∷ 0x00 ∷ 0x00 ∷ 0x00 ∷ payload) ++ (7 ∷ 7 ∷ []))
     ∷ point written journal
@@ -165,5 +166,5 @@ all [] = true
 all (p ∷ ps) = same (p .seen) (p .expected) && all ps
 
 points-hold : all points ≡ true
-unfolding points point all same switchWith ring8 nothing bool headWrite sizeWrite testWrite creditsWrite payload run posted memory at-work worked journal written five one again code le leAt bytesOf swap16 part inside splice bit zeroRing distance outstanding advance baseRefusal baseEffect powerUpTo sizeRefusal sizeEffect headRefusal headEffect creditsRefusal creditsEffect creditsInterrupt ctrlEffect nextSlot completeEffect completeInterrupt registerAt isWide upperOf narrowAt coveredBy wideAt access accessRefusal valueOf readValue portBits withRing withLinks withTest withTest64 withEnable freshRegisters resetRegisters sets store latchOf baseLatched latchEffect taken joined writeTo unlessWriteRefused write readRefusal read portCountAllowed portAllowed descriptorAt descriptor completionAt fetch valueSize filled tlvAt tlvEnd stepAt walk tlvs endOf wellFormed fitsWidth meet scan lookup rows memberWidth ruleIn ruleOf field isAt numberIn nestIn given value right hasUser fieldRight everyBelow fieldsRight groupType groupVlan groupLow vlanAllowed hasMembers groupIdAllowed memberId elem memberRight collect membersIn membersRight pad refused carried need matchOf flowOf groupFits newVlanFits matchAllowed flowUser isTable flowIn flowKeyIn groupOf membersOf groupAllowed groupUser groupIn groupKeyIn isCommand commandIn commandType commandInfo decode position holds find insert replace remove storedFlow flowEntry groupEntry emptyTables addStatus heldStatus commandStatus withFlows withGroups commandEffect decodedStatus decodedEffect executed carryOut execute completion header recordOf begin ready stopped markRefusal headerRead isUnread recordAgrees tablesAfter counted recordRead whole feed feeds endsIn finished finish replay digits decimal item line report freshSwitch unchanged unlessRefused readEffect writeEffect carry carriedSlot slotRecord processRefusal processEffect headerRefusal headed refusal effect step
+unfolding points point all same switchWith ring8 unlent bool headWrite sizeWrite testWrite creditsWrite payload run posted memory at-work worked journal written five one again code le leAt bytesOf swap16 part inside splice bit zeroRing distance outstanding advance baseRefusal baseEffect powerUpTo sizeRefusal sizeEffect headRefusal headEffect creditsRefusal creditsEffect creditsRaises ctrlEffect ringWide ringValue ringStore ringLatch baseLatched ringLatched nextSlot completeEffect completeRaises registerAt isWide upperOf narrowAt coveredBy wideAt access accessRefusal valueOf readValue portBits withRing raised inRing withLinks withTest withTest64 withEnable freshRegisters resetRegisters sets store latchOf latchEffect taken joined writeTo unlessWriteRefused write readRefusal read portCountAllowed portAllowed descriptorAt descriptor slotRefusal completionAt fetch valueSize filled tlvAt tlvEnd stepAt walk tlvs endOf wellFormed fitsWidth meet scan lookup rows memberWidth ruleIn ruleOf field isAt numberIn nestIn given value right hasUser fieldRight everyBelow fieldsRight groupType groupVlan groupLow vlanAllowed hasMembers groupIdAllowed memberId elem memberRight collect membersIn membersRight pad refused carried need matchOf flowOf groupFits newVlanFits matchAllowed flowUser isTable flowIn flowKeyIn groupOf membersOf groupAllowed groupUser groupIn groupKeyIn isCommand commandIn commandType commandInfo decode position holds find insert replace remove storedFlow flowEntry groupEntry emptyTables addStatus heldStatus commandStatus withFlows withGroups commandEffect decodedStatus decodedEffect executed carryOut execute completion header recordOf begin ready stopped headerRefusal termsIn opened headerRead isUnread recordAgrees tablesAfter counted recordRead whole feed feeds endsIn finished finish replay digits decimal item line report freshSwitch unchanged unlessRefused readEffect writeEffect carry carriedSlot slotRecord bufferRefusal processRefusal processWrites memoryAfter processEffect headed refusal effect step
 points-hold = refl

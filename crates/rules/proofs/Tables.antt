@@ -8,10 +8,12 @@ use native.Mathlib.Omega.{arith}
 use lib.Dec.{eqb}
 use lib.ListN.{length}
 use borrow.Author.Tests.{eqb-true, ne-eqb, le-leb, lt-leb}
+use Rattle.rules.specs.Limits.{maxFlows, maxGroups}
 use Rattle.rules.specs.Answers.{code}
 use Rattle.rules.specs.Keyed.{holds, Rising}
 use Rattle.rules.specs.Decode.{decode}
 use Rattle.rules.specs.Tables.{Tables, storedFlow, flowEntry, groupEntry, cookieOf, idOf, emptyTables, addStatus, commandStatus, withFlows, withGroups, commandEffect, decodedStatus, decodedEffect, executed, carryOut, execute}
+use Rattle.rules.specs.declared.Terms.{Terms}
 use Rattle.rules.specs.declared.Status.{Status}
 use Rattle.rules.specs.declared.Status.the-variants.{Ok, Enoent, Enxio, Enomem, Eexist, Einval, Emsgsize, Enotsup}
 use Rattle.rules.specs.declared.Match.{Match}
@@ -37,10 +39,10 @@ ok-code Emsgsize h = absurd (omega arith)
 ok-code Enotsup h = absurd (omega arith)
 
 -- A STATUS OTHER THAN OK LEAVES THE TABLES AS THEY WERE
-pub not-ok-unchanged : (ports : ℕ) (payload : List ℕ) (t : Tables)
-    → (execute ports payload t .status ≡ Ok → ⊥) → execute ports payload t .tables ≡ t
+pub not-ok-unchanged : (terms : Terms) (payload : List ℕ) (t : Tables)
+    → (execute terms payload t .status ≡ Ok → ⊥) → execute terms payload t .tables ≡ t
 unfolding execute carryOut executed
-not-ok-unchanged ports payload t h = simp (ne-eqb _ 0 (λ e. h (ok-code _ e)))
+not-ok-unchanged terms payload t h = simp (ne-eqb _ 0 (λ e. h (ok-code _ e)))
 
 -- ---- The order of statuses, for any table
 
@@ -72,8 +74,8 @@ module _ {A : Type 0} (key : A → ℕ) (k : ℕ) (l : List A) where
 pub record Good (t : Tables) : Type 0 where
   pub flows-rise : Rising cookieOf (t .flows)
   pub groups-rise : Rising idOf (t .groups)
-  pub flows-fit : length (t .flows) ≤ 256
-  pub groups-fit : length (t .groups) ≤ 128
+  pub flows-fit : length (t .flows) ≤ maxFlows
+  pub groups-fit : length (t .groups) ≤ maxGroups
 
 pub empty-good : Good emptyTables
 unfolding emptyTables
@@ -93,7 +95,7 @@ cookie-kept f = cookie-stored f (f .matching)
 command-good : (t : Tables) (c : Command) (m : List ℕ) → Good t → code (commandStatus t c) ≡ 0 → Good (commandEffect t c m)
 unfolding commandStatus commandEffect withFlows withGroups groupEntry
 command-good t (FlowAdd f) m g h =
-    let a = add-ok cookieOf (f .cookie) (t .flows) 256 h in
+    let a = add-ok cookieOf (f .cookie) (t .flows) maxFlows h in
     record {
       flows-rise = rising-insert cookieOf (flowEntry f) (t .flows) (rw (cookie-kept f) (a .0)) (g .flows-rise);
       groups-rise = g .groups-rise;
@@ -115,7 +117,7 @@ command-good t (FlowDel k) m g h =
       groups-fit = g .groups-fit;
     }
 command-good t (GroupAdd e) m g h =
-    let a = add-ok idOf (e .id) (t .groups) 128 h in
+    let a = add-ok idOf (e .id) (t .groups) maxGroups h in
     record {
       flows-rise = g .flows-rise;
       groups-rise = rising-insert idOf (groupEntry e m) (t .groups) (a .0) (g .groups-rise);
@@ -143,10 +145,10 @@ decoded-good t (Carry c) m g h = command-good t c m g h
 decoded-good t (Refused e) m g h = g
 
 -- every payload keeps them
-pub execute-good : (ports : ℕ) (payload : List ℕ) (t : Tables) → Good t → Good (execute ports payload t .tables)
+pub execute-good : (terms : Terms) (payload : List ℕ) (t : Tables) → Good t → Good (execute terms payload t .tables)
 unfolding execute carryOut executed
-execute-good ports payload t g =
-    let d = decode ports payload in
+execute-good terms payload t g =
+    let d = decode terms payload in
     by-test (eqb (code (decodedStatus t (d .what))) 0)
     (λ p. rw p (decoded-good t (d .what) (d .members) g (eqb-true (code (decodedStatus t (d .what))) 0 p)))
     (λ p. rw p g)

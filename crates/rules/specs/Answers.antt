@@ -23,7 +23,7 @@ number BadVersion = 12
 number BadPortCount = 13
 number RecordDisagrees = 14
 
--- "Codes: OK 0, ENOENT 2, ENXIO 6, ENOMEM 12, EEXIST 17, EINVAL 22, EMSGSIZE 90, ENOTSUP 95."
+-- the "Codes" of a completed command
 unfoldable pub code : Status → ℕ
 code Ok = 0
 code Enoent = 2

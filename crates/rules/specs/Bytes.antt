@@ -28,7 +28,7 @@ swap16 v = v % 256 * 256 + v / 256 % 256
 unfoldable pub part : ℕ → List ℕ → ℕ → List ℕ
 part n s at = take n (drop at s)
 
--- "A range is inside when its true end, without wrapping, is at most the slice's length."
+-- a range does not go past the slice: "its true end" decides, a sum that no width cuts
 unfoldable pub inside : ℕ → ℕ → List ℕ → Bool
 inside at n s = leb (at + n) (length s)
 

@@ -8,6 +8,6 @@ choose true a b = a
 choose false a b = b
 
 -- A refusal: the answer number n where its condition holds, else what the conditions after it give. A chain of these that ends in
--- 0 is a call's answer. "Several at once: the lower number is given. Each is given exactly on its condition."
+-- 0 is a call's answer. Where its numbers rise, "the lower number" is given, and each "exactly on its condition".
 abbrev pub refuse : Bool → ℕ → ℕ → ℕ
 refuse condition n rest = choose condition n rest

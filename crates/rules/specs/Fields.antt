@@ -5,6 +5,7 @@ use mathlib.Core.List.{List, [], _∷_}
 use lib.Dec.{leb, eqb}
 use lib.Bits.{bitAnd}
 use Rattle.rules.specs.Choose.{choose}
+use Rattle.rules.specs.Limits.{maxPorts, fieldTypes}
 use Rattle.rules.specs.Bytes.{leAt, part}
 use Rattle.rules.specs.Region.{lookup}
 use Rattle.rules.specs.declared.FieldRule.{FieldRule}
@@ -12,7 +13,7 @@ use Rattle.rules.specs.declared.Found.{Found}
 use Rattle.rules.specs.declared.Found.the-variants.{Absent, At, Fault}
 
 -- Who uses a field, a bit each: flow add and mod by table; flow del; group add and mod of type 0, and of types 3 and 4; group del.
--- ""Listed" inside CMD_INFO means used by that command and table or group type. Del reads only its key."
+-- A field is listed for a command if it is "used by that command" with its table or group type; a del uses its key alone.
 abbrev pub flow0 : ℕ
 flow0 = 1
 
@@ -70,9 +71,9 @@ rows =
     ∷ row 43 1 group0 group0  -- POP_VLAN
     ∷ []
 
--- "GROUP_IDS whose k-th TLV, k from 1, has type k and width 4"; at most 62 members
+-- the width of a member inside GROUP_IDS, where the types are the members' places in the list ("whose k-th TLV"), 62 at most
 unfoldable pub memberWidth : ℕ → ℕ
-memberWidth t = choose (leb 1 t && leb t 62) 4 0
+memberWidth t = choose (leb 1 t && leb t maxPorts) 4 0
 
 -- the row of a type; one that is not listed is used by nobody
 unfoldable pub ruleIn : ℕ → List Row → FieldRule
@@ -131,4 +132,4 @@ everyBelow (suc n) f = f n && everyBelow n f
 
 -- every field of the table is right for who reads the region: none "missing, repeated" or of another width
 unfoldable pub fieldsRight : List ℕ → ℕ → Bool
-fieldsRight s who = everyBelow 44 (fieldRight s who)
+fieldsRight s who = everyBelow fieldTypes (fieldRight s who)

@@ -7,6 +7,7 @@ use lib.ListN.{length, take, getD}
 use lib.Dec.{ltb, leb, eqb}
 use lib.Bits.{bitAnd}
 use Rattle.rules.specs.Choose.{choose, refuse}
+use Rattle.rules.specs.Limits.{listNumbers}
 use Rattle.rules.specs.Bytes.{leAt, swap16, splice}
 use Rattle.rules.specs.Keyed.{find}
 use Rattle.rules.specs.GroupId.{groupType, groupVlan, groupLow, hasMembers, memberId}
@@ -18,15 +19,15 @@ use Rattle.rules.specs.declared.GroupEntry.{GroupEntry}
 
 -- ---- The frame
 
--- "if bytes 12 and 13 are 81 00"
+-- a frame with a VLAN tag: "bytes 12 and 13"
 unfoldable pub isTagged : List ℕ → Bool
 isTagged f = eqb (getD f 12 0) 0x81 && eqb (getD f 13 0) 0x00
 
--- "A frame has 14 to 9,216 bytes, at least 18 if bytes 12 and 13 are 81 00."
+-- A frame's length ("14 to 9,216 bytes"): room for its header, and for the tag where it has one
 unfoldable pub isFrame : List ℕ → Bool
 isFrame f = leb 14 (length f) && leb (length f) 9216 && (not (isTagged f) || leb 18 (length f))
 
--- "Its VLAN is then the low 12 bits of bytes 14 and 15 (N), otherwise 0."
+-- the VLAN in a frame's tag, without the 4 bits above it ("the low 12 bits"); 0 without a tag
 unfoldable pub frameVlan : List ℕ → ℕ
 frameVlan f = choose (isTagged f) (swap16 (leAt 2 f 14) % 2 ^ 12) 0
 
@@ -46,19 +47,19 @@ module _ {A : Type 0} (matches : A → Bool) (beats : A → A → Bool) where
   best [] = none
   best (e ∷ es) = better e (best es)
 
--- "In each table the matching flow of highest PRIORITY decides, ties going to the lower cookie."
+-- a higher PRIORITY decides, and among equal ones "the lower cookie"
 unfoldable pub beats : FlowEntry → FlowEntry → Bool
 beats a b = choose (eqb (a .priority) (b .priority)) (ltb (a .cookie) (b .cookie)) (ltb (b .priority) (a .priority))
 
--- "Table 0 compares port and IN_PPORT, both under the mask"
+-- a flow of table 0 matches by the bits of the port that its mask has: "both under the mask"
 unfoldable pub matches0 : ℕ → FlowEntry → Bool
 matches0 port e = eqb (e .table) 0 && eqb (bitAnd port (e .«in_pport_mask»)) (bitAnd (e .«in_pport») (e .«in_pport_mask»))
 
--- "Table 10 compares port and VLAN"
+-- one of table 10 by "port and VLAN"
 unfoldable pub matches10 : ℕ → ℕ → FlowEntry → Bool
 matches10 port vlan e = eqb (e .table) 10 && eqb (e .«in_pport») port && eqb (e .«vlan_id») vlan
 
--- "Table 50 compares VLAN and, where given, DST_MAC"
+-- one of table 50 by VLAN and, "where given", by destination
 unfoldable pub matches50 : ℕ → ℕ → FlowEntry → Bool
 matches50 vlan mac e = eqb (e .table) 50 && eqb (e .«vlan_id») vlan && (not (e .«has_mac») || eqb (e .«dst_mac») mac)
 
@@ -69,7 +70,8 @@ pub record Exit : Type 0 where
   pub vlan : ℕ
   pub group : ℕ
 
--- "a miss drops. GOTO_TBL 0 drops." "60 [is] empty and passed through"; "no group .. gives no copies"
+-- After table 50: a frame that no flow of it matches is dropped, as is one whose flow has GOTO_TBL 0; else table 60 is "passed
+-- through", and where the flow names no group nothing goes out.
 unfoldable pub exitOf : ℕ → Option FlowEntry → Option Exit
 exitOf vlan none = none
 exitOf vlan (some e) =
@@ -78,7 +80,7 @@ exitOf vlan (some e) =
 unfoldable pub fromTable50 : List FlowEntry → ℕ → ℕ → Option Exit
 fromTable50 flows mac vlan = exitOf vlan (best (matches50 vlan mac) beats flows)
 
--- "a miss drops, VLAN 0 takes NEW_VLAN_ID. 20 [is] empty and passed through."
+-- After table 10: dropped in the same two cases; else a frame whose VLAN is 0 "takes NEW_VLAN_ID", and table 20 is passed through
 unfoldable pub afterTable10 : List FlowEntry → ℕ → ℕ → Option FlowEntry → Option Exit
 afterTable10 flows mac vlan none = none
 afterTable10 flows mac vlan (some e) =
@@ -87,7 +89,7 @@ afterTable10 flows mac vlan (some e) =
 unfoldable pub fromTable10 : List FlowEntry → ℕ → ℕ → ℕ → Option Exit
 fromTable10 flows mac port vlan = afterTable10 flows mac vlan (best (matches10 port vlan) beats flows)
 
--- table 0: "a miss goes to 10."
+-- table 0 lets a frame on that no flow of it matches: "a miss goes to 10"
 unfoldable pub passesTable0 : Option FlowEntry → Bool
 passesTable0 none = true
 passesTable0 (some e) = not (eqb (e .«goto_tbl») 0)
@@ -98,7 +100,7 @@ way flows port f =
 
 -- ---- Outputs
 
--- "A copy is three 16-bit numbers: port, VLAN, POP_VLAN."
+-- an output ("A copy is"), a number of 16 bits each
 pub record Output : Type 0 where
   pub port : ℕ
   pub vlan : ℕ
@@ -112,19 +114,19 @@ unfoldable pub outputIf : ℕ → Option GroupEntry → List Output → List Out
 outputIf vlan none rest = rest
 outputIf vlan (some g) rest = outputOf vlan g ∷ rest
 
--- "their existing members in order"
+-- one output for each member that exists ("existing members"), in the order of the list
 unfoldable pub memberOutputs : List GroupEntry → ℕ → ℕ → List ℕ → List Output
 memberOutputs groups groupVlan vlan [] = []
 memberOutputs groups groupVlan vlan (low ∷ lows) =
     outputIf vlan (find idOf (memberId groupVlan low) groups) (memberOutputs groups groupVlan vlan lows)
 
--- "type 0 is one copy, types 3 and 4 their existing members in order"
+-- what a group comes to by its type: its own output ("one copy"), or those of its members
 unfoldable pub groupOutputs : List GroupEntry → ℕ → GroupEntry → List Output
 groupOutputs groups vlan g =
     choose (eqb (groupType (g .id)) 0) (outputOf vlan g ∷ [])
     (choose (hasMembers (groupType (g .id))) (memberOutputs groups (groupVlan (g .id)) vlan (take (g .«member_count») (g .members))) [])
 
--- "a missing one, gives no copies"
+-- a group that is named and does not exist ("a missing one") gives none
 unfoldable pub foundOutputs : List GroupEntry → ℕ → Option GroupEntry → List Output
 foundOutputs groups vlan none = []
 foundOutputs groups vlan (some g) = groupOutputs groups vlan g
@@ -133,7 +135,7 @@ unfoldable pub exitOutputs : List GroupEntry → Option Exit → List Output
 exitOutputs groups none = []
 exitOutputs groups (some x) = foundOutputs groups (x .vlan) (find idOf (x .group) groups)
 
--- "Left out: copies to the ingress port, and to a port from 1 up that is down or not enabled. Port 0 is the host."
+-- No output goes to the port that the frame came in by. Link and enable are asked of a port "from 1 up": 0 is the host.
 unfoldable pub isKept : Registers → ℕ → Output → Bool
 isKept d ingress o = not (eqb (o .port) ingress) && (eqb (o .port) 0 || isUp d (o .port))
 
@@ -141,7 +143,7 @@ unfoldable pub keep : Registers → ℕ → List Output → List Output
 keep d ingress [] = []
 keep d ingress (o ∷ os) = choose (isKept d ingress o) (o ∷ keep d ingress os) (keep d ingress os)
 
--- "An ingress port that is down or not enabled gives no copies."
+-- the outputs of a frame: none where its ingress port is "down or not enabled"
 unfoldable pub outputs : Registers → Tables → ℕ → List ℕ → List Output
 outputs d t port f = choose (isUp d port) (keep d port (exitOutputs (t .groups) (way (t .flows) port f))) []
 
@@ -151,11 +153,11 @@ numbersOf (o ∷ os) = o .port ∷ o .vlan ∷ o .pop ∷ numbersOf os
 
 -- ---- The call
 
--- 7: "port not 1 to port count, or that not 1 to 62"; 8: "not a frame"; 9: "list shorter than 186 numbers"
+-- 7: a port that the device does not have; 8: "not a frame"; 9: a list without room for 62 outputs ("186 numbers")
 unfoldable pub frameRefusal : Registers → ℕ → List ℕ → List ℕ → ℕ
 frameRefusal d port f list =
-    refuse (not (portAllowed d port)) 7 (refuse (not (isFrame f)) 8 (refuse (ltb (length list) 186) 9 0))
+    refuse (not (portAllowed d port)) 7 (refuse (not (isFrame f)) 8 (refuse (ltb (length list) listNumbers) 9 0))
 
--- "The result gives their number; the rest of the list is kept."
+-- the list with the outputs at its start, "the rest of the list" as it was
 unfoldable pub listAfter : List Output → List ℕ → List ℕ
 listAfter os list = splice 0 (numbersOf os) list

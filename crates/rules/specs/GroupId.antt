@@ -1,4 +1,4 @@
--- "A group ID holds type in bits 31 to 28, VLAN (1 to 4094) in 27 to 16, port or index in 15 to 0."
+-- The parts of a group ID ("A group ID holds"): 4 bits of type, 12 of VLAN, and 16 low bits, a port or an index.
 use Prim.Native.Nat.{ℕ, _+_, _*_, _/_, _%_, _^_}
 use mathlib.Core.Bool.{Bool, _&&_, _||_}
 use lib.Dec.{leb, eqb}
@@ -20,7 +20,7 @@ vlanAllowed v = leb 1 v && leb v 4094
 unfoldable pub hasMembers : ℕ → Bool
 hasMembers t = eqb t 3 || eqb t 4
 
--- "Other types or VLANs are EINVAL, also in del, which doesn't look at the low bits' range."
+-- what every group command asks of its ID, "also in del"; of the low bits only add and mod ask more (Decode: `groupAllowed`)
 unfoldable pub groupIdAllowed : ℕ → Bool
 groupIdAllowed id = (eqb (groupType id) 0 || hasMembers (groupType id)) && vlanAllowed (groupVlan id)
 

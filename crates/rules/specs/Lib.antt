@@ -1,7 +1,10 @@
 -- Document 01 as definitions, in the paper's order; a chapter is one file or several (docs/ARCHITECTURE.md).
 pub mod Choose
 pub mod Answers
+pub mod Limits
+pub mod Version
 pub mod Bytes
+pub mod Writes
 pub mod Ring
 pub mod Registers
 pub mod Descriptor
@@ -16,4 +19,5 @@ pub mod Places
 pub mod Tables
 pub mod Frame
 pub mod Journal
+pub mod Told
 pub mod Switch

@@ -1,11 +1,11 @@
--- "Types 3 and 4: GROUP_COUNT 1 to 62, and GROUP_IDS whose k-th TLV, k from 1, has type k and width 4, none skipped; as many as the
--- count, distinct, type 0, same VLAN."
+-- The members of a group of type 3 or 4 ("Types 3 and 4"): GROUP_IDS holds their IDs, one TLV each, and GROUP_COUNT their number.
 use Prim.Native.Nat.{ℕ, _+_, _-_}
 use mathlib.Core.Bool.{Bool, true, false, not, _&&_, _||_}
 use mathlib.Core.List.{List, [], _∷_, _++_}
 use lib.ListN.{length, replicate}
 use lib.Dec.{ltb, leb, eqb}
 use Rattle.rules.specs.Choose.{choose}
+use Rattle.rules.specs.Limits.{maxPorts}
 use Rattle.rules.specs.Bytes.{leAt}
 use Rattle.rules.specs.Region.{tlvs, wellFormed}
 use Rattle.rules.specs.Fields.{ruleOf}
@@ -21,7 +21,7 @@ elem x (y ∷ ys) = eqb y x || elem x ys
 -- exactly if their low bits are.)
 unfoldable pub memberRight : ℕ → ℕ → Tlv → ℕ → Bool → Bool
 memberRight vlan n x id there =
-    ltb n 62 && eqb (x .kind) (n + 1) && eqb (x .size) (ruleOf (n + 1) .«member_width»)
+    ltb n maxPorts && eqb (x .kind) (n + 1) && eqb (x .size) (ruleOf (n + 1) .«member_width»)
     && eqb (groupType id) 0 && eqb (groupVlan id) vlan && not there
 
 -- Members collected: whether every TLV was right, and the low bits of those collected
@@ -43,8 +43,8 @@ membersIn s vlan = choose (wellFormed s) (collect s vlan [] (tlvs s 0)) (record 
 
 -- GROUP_IDS is right for a GROUP_COUNT: 1 to 62, and as many members
 unfoldable pub membersRight : ℕ → Collected → Bool
-membersRight count c = c .right && leb 1 count && leb count 62 && eqb (length (c .lows)) count
+membersRight count c = c .right && leb 1 count && leb count maxPorts && eqb (length (c .lows)) count
 
 -- members at the front of 62 numbers, the rest 0
 unfoldable pub pad : List ℕ → List ℕ
-pad l = l ++ replicate (62 - length l) 0
+pad l = l ++ replicate (maxPorts - length l) 0

@@ -12,15 +12,15 @@ use Rattle.rules.specs.declared.Step.the-variants.{Next, End, Fault as N
 use Rattle.rules.specs.declared.Found.{Found}
 use Rattle.rules.specs.declared.Found.the-variants.{Absent, At, Fault}
 
--- the length of a TLV's value, from its length field: "length of its value (2)"
+-- the length of a TLV's value, from its length field, which counts the value alone: "length of its value"
 unfoldable pub valueSize : ℕ → ℕ
 valueSize field = field
 
--- "filled up to a multiple of 8"
+-- a length with its fill: "a multiple of 8"
 unfoldable pub filled : ℕ → ℕ
 filled n = (n + 7) / 8 * 8
 
--- "A TLV is type (4), length of its value (2), pad (2, ignored), the value, filled up to a multiple of 8."
+-- "A TLV is": 4 bytes of type, 2 of length and 2 that are not read, then the value
 unfoldable pub tlvAt : List ℕ → ℕ → Tlv
 tlvAt s i = record { kind = leAt 4 s i; start = i + 8; size = valueSize (leAt 2 s (i + 4)) }
 
@@ -58,7 +58,7 @@ unfoldable pub endOf : ℕ → List Tlv → ℕ
 endOf i [] = i
 endOf i (x ∷ xs) = endOf (tlvEnd x) xs
 
--- "A region is well formed when whole TLVs with their fill cover it exactly."
+-- TLVs fill the region, no byte is left over: "cover it exactly"
 unfoldable pub wellFormed : List ℕ → Bool
 wellFormed s = eqb (endOf 0 (tlvs s 0)) (length s)
 
@@ -66,13 +66,13 @@ wellFormed s = eqb (endOf 0 (tlvs s 0)) (length s)
 unfoldable pub fitsWidth : ℕ → ℕ → Bool
 fitsWidth width size = eqb width 0 || eqb size width
 
--- what one more TLV of the type makes of what was found. "A listed one that comes twice, or has another width, is EINVAL."
+-- what one more TLV of the type makes of what was found: a fault if it "comes twice" or its width is not the listed one
 unfoldable pub meet : ℕ → Tlv → Found → Found
 meet width x Absent = choose (fitsWidth width (x .size)) (At (x .start) (x .size)) Fault
 meet width x (At a n) = Fault
 meet width x Fault = Fault
 
--- what a list of TLVs makes of what was found of a type. "Unlisted types are skipped."
+-- what a list of TLVs makes of what was found of a type; those of other types count for nothing ("skipped")
 unfoldable pub scan : ℕ → ℕ → Found → List Tlv → Found
 scan kind width f [] = f
 scan kind width f (x ∷ xs) = scan kind width (choose (eqb (x .kind) kind) (meet width x f) f) xs

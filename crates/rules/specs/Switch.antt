@@ -1,24 +1,26 @@
 -- One step of any call on the whole switch: the answer, and all that the call leaves behind it.
 use Prim.Native.Nat.{ℕ}
-use mathlib.Core.Bool.{Bool, false, not}
-use mathlib.Core.List.{List, []}
+use mathlib.Core.Bool.{Bool, not}
+use mathlib.Core.List.{List, [], _∷_}
 use lib.ListN.{length}
-use lib.Dec.{ltb, leb, eqb}
+use lib.Dec.{ltb, eqb}
 use Rattle.rules.specs.Choose.{choose, refuse}
-use Rattle.rules.specs.Answers.{code}
-use Rattle.rules.specs.Bytes.{bytesOf, inside, splice}
-use Rattle.rules.specs.Ring.{completeEffect, completeInterrupt}
-use Rattle.rules.specs.Registers.{Written, write, read, readRefusal, withRing, withLinks, freshRegisters, portCountAllowed, portAllowed, linkEffect}
-use Rattle.rules.specs.Descriptor.{Fetched, descriptorAt, descriptor, completionAt, fetch}
+use Rattle.rules.specs.Bytes.{bytesOf, splice}
+use Rattle.rules.specs.Writes.{Write, bytesAt, memoryAfter}
+use Rattle.rules.specs.Told.{Told, nothing, withValue, withVectors, withCompleted, withWritten, withOutputs}
+use Rattle.rules.specs.Ring.{completeEffect, completeRaises}
+use Rattle.rules.specs.Registers.{Written, write, read, readRefusal, commandRing, withCommandRing, raised, withLinks, freshRegisters, portCountAllowed, portAllowed, linkEffect, termsOf}
+use Rattle.rules.specs.Descriptor.{Fetched, descriptorAt, descriptor, slotRefusal, completionAt, fetch}
 use Rattle.rules.specs.Descriptor.Fetched.{Faulty, Payload}
 use Rattle.rules.specs.Tables.{Tables, Arrays, emptyTables, execute, tablesOf, noneLive}
 use Rattle.rules.specs.Frame.{Output, frameRefusal, outputs, listAfter}
 use Rattle.rules.specs.Journal.{completion, header, recordOf}
+use Rattle.rules.specs.declared.Terms.{Terms}
 use Rattle.rules.specs.declared.Status.{Status}
 use Rattle.rules.specs.declared.Registers.{Registers}
 use Rattle.rules.specs.declared.Device.{Device}
 use Rattle.rules.specs.declared.Request.{Request}
-use Rattle.rules.specs.declared.Request.the-variants.{Read, Write, Link, Process, Frame, Header}
+use Rattle.rules.specs.declared.Request.the-variants.{Read, Write as WriteTo, Link, Process, Frame, Header}
 
 -- The switch as the rules see it
 pub record Switch : Type 0 where
@@ -35,7 +37,7 @@ switchOf d a = record { registers = d .registers; tables = tablesOf (d .counts) 
 unfoldable pub freshRefusal : ℕ → ℕ
 freshRefusal ports = refuse (not (portCountAllowed ports)) 7 0
 
--- "A fresh device has 1 to 62 ports and a 64-bit switch ID, all links down, all else zero and the tables empty."
+-- "the tables empty"
 unfoldable pub freshSwitch : ℕ → ℕ → Switch
 freshSwitch ports id = record { registers = freshRegisters ports id; tables = emptyTables }
 
@@ -55,46 +57,47 @@ pub record Borrowed : Type 0 where
 -- What a call comes to. Refused or not, all that may have changed is here: the frame is only read.
 pub record Result : Type 0 where
   pub answer : ℕ
-  pub value : ℕ  -- what a read gives
-  pub interrupt : Bool  -- whether vector 0 was raised
-  pub completed : ℕ  -- the completion (COMP_ERR) that process wrote, 0 for none
-  pub length : ℕ  -- bytes written into the buffer
-  pub outputs : ℕ  -- outputs written into the list
+  pub told : Told
   pub memory : List ℕ
   pub buffer : List ℕ
   pub list : List ℕ
   pub switch : Switch
 
--- nothing but the answer: "Any answer but 0 leaves state, memory, trail room and list unchanged; a refused read gives 0"
+-- an answer and what is told, with the switch and what is lent as they then are
+abbrev pub result : ℕ → Told → Switch → Borrowed → Result
+result n told s b = record { answer = n; told = told; memory = b .memory; buffer = b .buffer; list = b .list; switch = s }
+
+-- "Any answer but 0": all is as it was, and nothing is told, so a refused read gives 0
 unfoldable pub unchanged : Switch → Borrowed → ℕ → Result
-unchanged s b answer =
-    record { answer = answer; value = 0; interrupt = false; completed = 0; length = 0; outputs = 0; memory = b .memory; buffer = b .buffer; list = b .list; switch = s }
+unchanged s b answer = result answer nothing s b
 
 -- a refusal number and an effect that is used only at 0
 unfoldable pub unlessRefused : Switch → Borrowed → ℕ → Result → Result
 unlessRefused s b refusal effect = choose (eqb refusal 0) effect (unchanged s b refusal)
 
+-- what is lent, written over
+abbrev pub withMemory : List ℕ → Borrowed → Borrowed
+withMemory memory b = record { memory = memory; frame = b .frame; buffer = b .buffer; list = b .list }
+
+abbrev pub withBuffer : List ℕ → Borrowed → Borrowed
+withBuffer buffer b = record { memory = b .memory; frame = b .frame; buffer = buffer; list = b .list }
+
+abbrev pub withList : List ℕ → Borrowed → Borrowed
+withList list b = record { memory = b .memory; frame = b .frame; buffer = b .buffer; list = list }
+
+-- 6: the buffer is shorter than what is to be written
+unfoldable pub bufferRefusal : ℕ → List ℕ → ℕ
+bufferRefusal n buffer = refuse (ltb (length buffer) n) 6 0
+
 -- ---- Read and write
 
 unfoldable pub readEffect : Switch → Borrowed → ℕ → ℕ → Result
-readEffect s b offset width =
-    record { answer = 0; value = read (s .registers) offset width; interrupt = false; completed = 0; length = 0; outputs = 0; memory = b .memory; buffer = b .buffer; list = b .list; switch = s }
+readEffect s b offset width = result 0 (withValue (read (s .registers) offset width) nothing) s b
 
 -- a device reset empties the tables
 unfoldable pub writeEffect : Switch → Borrowed → Written → Result
 writeEffect s b w =
-    record {
-      answer = 0;
-      value = 0;
-      interrupt = w .interrupt;
-      completed = 0;
-      length = 0;
-      outputs = 0;
-      memory = b .memory;
-      buffer = b .buffer;
-      list = b .list;
-      switch = record { registers = w .registers; tables = choose (w .resets) emptyTables (s .tables) };
-    }
+    result 0 (withVectors (w .vectors) nothing) (record { registers = w .registers; tables = choose (w .resets) emptyTables (s .tables) }) b
 
 -- ---- Link
 
@@ -103,96 +106,76 @@ linkRefusal d port = refuse (not (portAllowed d port)) 7 0
 
 unfoldable pub linked : Switch → Borrowed → ℕ → Bool → Result
 linked s b port up =
-    record {
-      answer = 0;
-      value = 0;
-      interrupt = false;
-      completed = 0;
-      length = 0;
-      outputs = 0;
-      memory = b .memory;
-      buffer = b .buffer;
-      list = b .list;
-      switch = record { registers = withLinks (s .registers) (linkEffect (s .registers .links) port up); tables = s .tables };
-    }
+    result 0 nothing (record { registers = withLinks (s .registers) (linkEffect (s .registers .links) port up); tables = s .tables }) b
 
 -- ---- Process (document 01: the work call)
 
--- A slot carried out: its status, the payload that is recorded, the tables after it. "These three record no payload."
+-- A slot carried out: its status, the payload that is recorded (none of a fault), the tables after it
 pub record Carried : Type 0 where
   pub status : Status
   pub payload : List ℕ
   pub tables : Tables
 
-unfoldable pub carry : ℕ → Tables → Fetched → Carried
-carry ports t (Faulty e) = record { status = e; payload = []; tables = t }
-carry ports t (Payload p) = record { status = execute ports p t .status; payload = p; tables = execute ports p t .tables }
+unfoldable pub carry : Terms → Tables → Fetched → Carried
+carry terms t (Faulty e) = record { status = e; payload = []; tables = t }
+carry terms t (Payload p) = record { status = execute terms p t .status; payload = p; tables = execute terms p t .tables }
 
 -- the slot at TAIL, as memory holds it before the completion is written
 unfoldable pub carriedSlot : Switch → List ℕ → Carried
 carriedSlot s memory =
-    carry (s .registers .ports) (s .tables) (fetch memory (descriptor memory (descriptorAt (s .registers .ring))))
+    carry (termsOf (s .registers)) (s .tables) (fetch memory (descriptor memory (descriptorAt (commandRing (s .registers)))))
 
 unfoldable pub slotRecord : Switch → List ℕ → List ℕ
-slotRecord s memory = recordOf (carriedSlot s memory .status) (carriedSlot s memory .payload) (s .registers .ring .tail)
+slotRecord s memory = recordOf (carriedSlot s memory .status) (carriedSlot s memory .payload) (commandRing (s .registers) .tail)
 
--- 3: "head equals tail"; 4: "credits are 65,536" (or, in a state that no call makes, more); 5: "descriptor not inside memory";
--- 6: "trail room shorter than the line"
+-- 3, 4, 5: there is no slot to complete; 6: its record does not fit
 unfoldable pub processRefusal : Switch → Borrowed → ℕ
 processRefusal s b =
-    refuse (eqb (s .registers .ring .head) (s .registers .ring .tail)) 3
-    (refuse (leb 65536 (s .registers .ring .credits)) 4
-    (refuse (not (inside (descriptorAt (s .registers .ring)) 32 (b .memory))) 5
-    (refuse (ltb (length (b .buffer)) (length (slotRecord s (b .memory)))) 6 0)))
+    slotRefusal (commandRing (s .registers)) (b .memory) (bufferRefusal (length (slotRecord s (b .memory))) (b .buffer))
 
--- "Then COMP_ERR becomes 0x8000 plus the code, TAIL advances by one modulo SIZE, CREDITS rises by one; vector 0 is raised when it was
--- 0." "One line a consumed slot"; "Header and line go to the start of the lent room, the rest is kept, and the result gives their
--- length."
+-- all that a process call writes into guest memory: the completion, in the slot's descriptor
+unfoldable pub processWrites : Switch → List ℕ → List Write
+processWrites s memory =
+    bytesAt (completionAt (commandRing (s .registers))) (bytesOf 2 (completion (carriedSlot s memory .status))) ∷ []
+
+-- "one line a consumed slot", at the start of the buffer, whose rest is kept; the ring completes the slot
 unfoldable pub processEffect : Switch → Borrowed → Result
 processEffect s b =
-    record {
-      answer = 0;
-      value = 0;
-      interrupt = completeInterrupt (s .registers .ring);
-      completed = completion (carriedSlot s (b .memory) .status);
-      length = length (slotRecord s (b .memory));
-      outputs = 0;
-      memory = splice (completionAt (s .registers .ring)) (bytesOf 2 (completion (carriedSlot s (b .memory) .status))) (b .memory);
-      buffer = splice 0 (slotRecord s (b .memory)) (b .buffer);
-      list = b .list;
-      switch = record { registers = withRing (s .registers) (completeEffect (s .registers .ring)); tables = carriedSlot s (b .memory) .tables };
-    }
+    result
+    0
+    (withVectors (raised 0 (completeRaises (commandRing (s .registers))))
+    (withCompleted (completion (carriedSlot s (b .memory) .status)) (withWritten (length (slotRecord s (b .memory))) nothing)))
+    (record {
+      registers = withCommandRing (s .registers) (completeEffect (commandRing (s .registers)));
+      tables = carriedSlot s (b .memory) .tables;
+    })
+    (withMemory (memoryAfter (processWrites s (b .memory)) (b .memory))
+    (withBuffer (splice 0 (slotRecord s (b .memory)) (b .buffer)) b))
 
 -- ---- Frame
 
 unfoldable pub framed : Switch → Borrowed → List Output → Result
-framed s b os =
-    record { answer = 0; value = 0; interrupt = false; completed = 0; length = 0; outputs = length os; memory = b .memory; buffer = b .buffer; list = listAfter os (b .list); switch = s }
+framed s b os = result 0 (withOutputs (length os) nothing) s (withList (listAfter os (b .list)) b)
 
 -- ---- Header
 
--- 6: "trail room shorter than the .. header"
-unfoldable pub headerRefusal : Borrowed → ℕ
-headerRefusal b = refuse (ltb (length (b .buffer)) 6) 6 0
-
--- "A call of its own writes it."
+-- "a call of its own"
 unfoldable pub headed : Switch → Borrowed → Result
-headed s b =
-    record { answer = 0; value = 0; interrupt = false; completed = 0; length = 6; outputs = 0; memory = b .memory; buffer = splice 0 (header (s .registers .ports)) (b .buffer); list = b .list; switch = s }
+headed s b = result 0 (withWritten 6 nothing) s (withBuffer (splice 0 (header (termsOf (s .registers))) (b .buffer)) b)
 
 -- ---- Any call
 
 unfoldable pub refusal : Switch → Borrowed → Request → ℕ
 refusal s b (Read offset width) = readRefusal offset width
-refusal s b (Write offset width value) = write (s .registers) offset width value .refusal
+refusal s b (WriteTo offset width value) = write (s .registers) offset width value .refusal
 refusal s b (Link port up) = linkRefusal (s .registers) port
 refusal s b Process = processRefusal s b
 refusal s b (Frame port) = frameRefusal (s .registers) port (b .frame) (b .list)
-refusal s b Header = headerRefusal b
+refusal s b Header = bufferRefusal 6 (b .buffer)
 
 unfoldable pub effect : Switch → Borrowed → Request → Result
 effect s b (Read offset width) = readEffect s b offset width
-effect s b (Write offset width value) = writeEffect s b (write (s .registers) offset width value)
+effect s b (WriteTo offset width value) = writeEffect s b (write (s .registers) offset width value)
 effect s b (Link port up) = linked s b port up
 effect s b Process = processEffect s b
 effect s b (Frame port) = framed s b (outputs (s .registers) (s .tables) port (b .frame))

@@ -2,12 +2,14 @@
 use Prim.Native.Nat.{ℕ}
 use mathlib.Core.Bool.{false}
 use mathlib.Core.List.{List, []}
-use lib.ListN.{length, take, replicate}
+use lib.ListN.{length, replicate}
 use lib.Dec.{leb, eqb}
 use Rattle.rules.specs.Choose.{choose}
+use Rattle.rules.specs.Limits.{maxPorts, maxFlows, maxGroups}
 use Rattle.rules.specs.Answers.{code}
 use Rattle.rules.specs.Keyed.{holds, insert, replace, remove}
 use Rattle.rules.specs.Decode.{decode}
+use Rattle.rules.specs.declared.Terms.{Terms}
 use Rattle.rules.specs.declared.Status.{Status}
 use Rattle.rules.specs.declared.Status.the-variants.{Ok, Enoent, Enomem, Eexist}
 use Rattle.rules.specs.declared.Match.{Match}
@@ -44,7 +46,7 @@ unfoldable pub groupEntry : Group → List ℕ → GroupEntry
 groupEntry g members =
     record { id = g .id; «pop_vlan» = g .«pop_vlan»; «member_count» = g .«member_count»; members = members }
 
--- "The cookie is the key."; "The ID is the key"
+-- "the key" of each
 abbrev pub cookieOf : FlowEntry → ℕ
 cookieOf e = e .cookie
 
@@ -87,11 +89,11 @@ noneLive = record { flows = 0; groups = 0 }
 
 -- a fresh device's arrays: 256 flow places and 128 group places, every word 0
 unfoldable pub freshArrays : Arrays
-freshArrays = arrays (replicate 256 (replicate 16 0)) (replicate 128 (replicate 3 0)) (replicate 128 (replicate 62 0))
+freshArrays = arrays (replicate maxFlows (replicate 16 0)) (replicate maxGroups (replicate 3 0)) (replicate maxGroups (replicate maxPorts 0))
 
 -- ---- Commands
 
--- "EEXIST (add) or ENOENT (mod, del); ENOMEM (add, when 256 flows or 128 groups are live)", for any table
+-- of an add EEXIST, then ENOMEM "when 256 flows or 128 groups" are live; of a mod or del ENOENT. For any table
 module _ {A : Type 0} (key : A → ℕ) where
   unfoldable pub addStatus : ℕ → ℕ → List A → Status
   addStatus limit k l = choose (holds key k l) Eexist (choose (leb limit (length l)) Enomem Ok)
@@ -100,10 +102,10 @@ module _ {A : Type 0} (key : A → ℕ) where
   heldStatus k l = choose (holds key k l) Ok Enoent
 
 unfoldable pub commandStatus : Tables → Command → Status
-commandStatus t (FlowAdd f) = addStatus cookieOf 256 (f .cookie) (t .flows)
+commandStatus t (FlowAdd f) = addStatus cookieOf maxFlows (f .cookie) (t .flows)
 commandStatus t (FlowMod f) = heldStatus cookieOf (f .cookie) (t .flows)
 commandStatus t (FlowDel k) = heldStatus cookieOf k (t .flows)
-commandStatus t (GroupAdd g) = addStatus idOf 128 (g .id) (t .groups)
+commandStatus t (GroupAdd g) = addStatus idOf maxGroups (g .id) (t .groups)
 commandStatus t (GroupMod g) = heldStatus idOf (g .id) (t .groups)
 commandStatus t (GroupDel k) = heldStatus idOf k (t .groups)
 
@@ -113,7 +115,7 @@ withFlows t l = record { flows = l; groups = t .groups }
 unfoldable pub withGroups : Tables → List GroupEntry → Tables
 withGroups t l = record { flows = t .flows; groups = l }
 
--- what a command does when its status is OK. "Mod replaces all other fields."; "mod replaces the rest"
+-- what a command does when its status is OK. A mod replaces all but the key
 unfoldable pub commandEffect : Tables → Command → List ℕ → Tables
 commandEffect t (FlowAdd f) m = withFlows t (insert cookieOf (flowEntry f) (t .flows))
 commandEffect t (FlowMod f) m = withFlows t (replace cookieOf (flowEntry f) (t .flows))
@@ -142,6 +144,6 @@ executed t e effect = record { status = e; tables = choose (eqb (code e) 0) effe
 unfoldable pub carryOut : Tables → Decoding → Executed
 carryOut t d = executed t (decodedStatus t (d .what)) (decodedEffect t (d .what) (d .members))
 
--- "the payload, carried out as below"
-unfoldable pub execute : ℕ → List ℕ → Tables → Executed
-execute ports payload t = carryOut t (decode ports payload)
+-- a payload, under the terms of a device or a journal
+unfoldable pub execute : Terms → List ℕ → Tables → Executed
+execute terms payload t = carryOut t (decode terms payload)

@@ -33,9 +33,53 @@ pub enum Status {
     Enotsup,
 }
 
+// ---- Limits, for code; specs/Limits.antt has them for the rules
+
+// Ports of a device; a group has as many members at most.
+pub const MAX_PORTS: u32 = 62;
+
+pub const MAX_MEMBERS: usize = MAX_PORTS as usize;
+
+pub const MAX_CREDITS: u32 = 65536;
+
+// Bytes of a payload.
+pub const MAX_PAYLOAD: usize = 4096;
+
+// Numbers of a list of outputs: three for each port.
+pub const LIST_NUMBERS: usize = 3 * MAX_MEMBERS;
+
+// Entries that a table has places for.
+pub const MAX_FLOWS: usize = 256;
+
+pub const MAX_GROUPS: usize = 128;
+
+// The types of fields are those below this.
+pub const FIELD_TYPES: usize = 44;
+
+// The members of a group.
+pub type Members = [u16; MAX_MEMBERS];
+
+// The arrays that hold the places of the tables (specs/Rows.antt): a flow is a row of the first, a group a row of each of the others.
+pub type FlowRows = [[u32; 16]; MAX_FLOWS];
+
+pub type GroupHeads = [[u32; 3]; MAX_GROUPS];
+
+pub type GroupMembers = [Members; MAX_GROUPS];
+
+// ---- Terms
+
+// The version of the journals that the device writes (specs/Version.antt).
+pub const CURRENT_VERSION: u16 = 1;
+
+// What a journal's header tells, and what its payloads are carried out under: the port count and the version.
+pub struct Terms {
+    pub ports: u32,
+    pub version: u16,
+}
+
 // ---- Registers
 
-// The command ring. `base_latch` is the latch (document 01: hold) of BASE_ADDR.
+// A ring. `base_latch` is the latch (document 01: hold) of BASE_ADDR.
 pub struct Ring {
     pub base_addr: u64,
     pub base_latch: u32,
@@ -58,7 +102,18 @@ pub struct Registers {
     pub ring: Ring,
 }
 
-// The registers of document 01's list. Magic is each 8 bytes of 0x0000 to 0x000f.
+// The six registers that a ring has.
+pub enum RingRegister {
+    BaseAddr,
+    Size,
+    Head,
+    Tail,
+    Ctrl,
+    Credits,
+}
+
+// The registers of document 01's list: the device's own eight, where Magic is each 8 bytes of 0x0000 to 0x000f, and a ring's six with
+// the ring's number.
 pub enum Register {
     Magic,
     TestReg,
@@ -68,12 +123,7 @@ pub enum Register {
     PortPhysLinkStatus,
     PortPhysEnable,
     SwitchId,
-    BaseAddr,
-    Size,
-    Head,
-    Tail,
-    Ctrl,
-    Credits,
+    OfRing(u8, RingRegister),
 }
 
 // The register that starts at an offset, if one does.
@@ -188,7 +238,7 @@ pub enum Decoded {
 // A decoding with the members of its group: their low 16 bits, those past the count 0.
 pub struct Decoding {
     pub what: Decoded,
-    pub members: [u16; 62],
+    pub members: Members,
 }
 
 // ---- Tables
@@ -217,7 +267,7 @@ pub struct GroupEntry {
     pub id: u32,
     pub pop_vlan: bool,
     pub member_count: u8,
-    pub members: [u16; 62],
+    pub members: Members,
 }
 
 // How many places of each table are live: those at the front of its array, in rising order of their key. The others are free.

@@ -1,0 +1,48 @@
+-- Where a frame may go: each output's port is the host or is up, and is not the port that the frame came in on. For any registers,
+-- tables, port and frame.
+-- Assumes nothing.
+use Prim.Native.Nat.{ℕ}
+use mathlib.Core.Bool.{true, not, _||_}
+use mathlib.Core.Logic.{_⊎_, inl, inr}
+use mathlib.Core.List.{List, [], _∷_}
+use mathlib.Core.Path.{_≡_}
+use lib.Dec.{eqb}
+use borrow.Author.Tests.{eqb-false, not-true}
+use Rattle.rules.specs.Registers.{isUp}
+use Rattle.rules.specs.Tables.{Tables}
+use Rattle.rules.specs.Frame.{Output, way, exitOutputs, isKept, keep, outputs}
+use Rattle.rules.specs.declared.Registers.{Registers}
+use Rattle.rules.proofs.Cases.{by-test, by-eq, and-left, and-right}
+
+module _ {A : Type 0} (P : A → Type 0) where
+  abbrev pub All : List A → Type 0
+  All [] = Unit
+  All (x ∷ xs) = P x × All xs
+
+module _ (d : Registers) (ingress : ℕ) where
+  -- what is not "left out"
+  abbrev pub MayLeave : Output → Type 0
+  MayLeave o = ((o .port ≡ 0) ⊎ (isUp d (o .port) ≡ true)) × (o .port ≡ ingress → ⊥)
+
+  kept-is-elsewhere : (o : Output) → isKept d ingress o ≡ true → o .port ≡ ingress → ⊥
+  unfolding isKept
+  kept-is-elsewhere o e = eqb-false (o .port) ingress (not-true _ (and-left _ _ e))
+
+  kept-is-up : (o : Output) → isKept d ingress o ≡ true → (o .port ≡ 0) ⊎ (isUp d (o .port) ≡ true)
+  unfolding isKept
+  kept-is-up o e =
+      let h : eqb (o .port) 0 || isUp d (o .port) ≡ true = and-right (not (eqb (o .port) ingress)) _ e in
+      by-eq (o .port) 0 (λ z p. inl z) (λ z p. inr (simp p at h))
+
+  all-kept : (os : List Output) → All MayLeave (keep d ingress os)
+  unfolding keep
+  all-kept [] = tt
+  all-kept (o ∷ os) = by-test (isKept d ingress o) (λ p. simp p ((kept-is-up o p, kept-is-elsewhere o p), all-kept os)) (λ p. simp p (all-kept os))
+
+  -- THE LAW
+  pub outputs-may : (t : Tables) (f : List ℕ) → All MayLeave (outputs d t ingress f)
+  unfolding outputs
+  outputs-may t f =
+      by-test (isUp d ingress)
+      (λ p. simp p (all-kept (exitOutputs (t .groups) (way (t .flows) ingress f))))
+      (λ p. simp p tt)
