@@ -1,4 +1,2 @@
-pub mod Tests
-pub mod Reach
 pub mod Outcomes
-pub mod Bitmaps
+pub mod Fits

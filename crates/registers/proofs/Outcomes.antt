@@ -1,43 +1,44 @@
 -- The ends of a write: refused with everything kept, or carried out.
 -- Assumes nothing.
-use Prim.Native.Nat.{ℕ, zero, suc}
-use mathlib.Core.Path.{_≡_, refl, ap, _∙_}
-use mathlib.Core.Bool.{Bool, false}
-use lib.Dec.{eqb·suc-zero}
+use Prim.Native.Nat.{ℕ}
+use mathlib.Core.Path.{_≡_, refl, ap}
+use mathlib.Core.Bool.{Bool, true, false}
+use lib.Dec.{eqb}
 use Rattle.rules.specs.Answers.{number}
-use Rattle.rules.specs.Registers.{withRing, sets, unlessRefused}
+use Rattle.rules.specs.Choose.{choose}
+use Rattle.rules.specs.Ring.{Stored}
+use Rattle.rules.specs.Registers.{ringAt, withRing, raised, inRing, sets, unlessRefused}
 use Rattle.rules.specs.declared.Answer.the-variants.{PortNotAllowed, Done}
 use Rattle.rules.specs.declared.Ring.{Ring}
 use Rattle.rules.specs.declared.Registers.{Registers}
 use Rattle.registers.specs.declared.Written.{Written}
 use Rattle.ring.specs.declared.RingWritten.{RingWritten}
 use Rattle.ring.specs.Outcomes.{RingGives}
-use Rattle.registers.specs.Outcomes.{Gives, Changes, done, inRing}
+use Rattle.registers.specs.Outcomes.{Gives, Changes, done, ringDone}
 
 -- a write to registers that nothing refuses
 pub accepted : (d : Registers) {next after : Registers} {w : Written} → w ≡ done next → next ≡ after → Gives w (unlessRefused d (sets 0 after))
-unfolding number sets unlessRefused
-accepted d e a = rw e (record { answer = refl; registers = a; interrupt = refl; resets = refl })
+unfolding number sets unlessRefused raised
+accepted d e a = rw e (record { answer = refl; registers = a; vectors = refl; resets = refl })
 
-kept : (d : Registers) → withRing d (d .ring) ≡ d
+-- what a write makes of a ring, it makes of the registers
+ring-gives : (d : Registers) (n : ℕ) (w : RingWritten) (of : Stored) (t : Bool) → number (w .answer) ≡ of .refusal
+    → w .ring ≡ choose t (of .ring) (ringAt d n) → w .raises ≡ choose t (of .raises) false
+    → Gives (ringDone d n w) (choose t (inRing d n of) (sets (of .refusal) d))
+unfolding ringDone inRing sets withRing raised
+ring-gives d n w of true a r v = record { answer = a; registers = ap (withRing d n) r; vectors = ap (raised n) v; resets = refl }
+ring-gives d n w of false a r v = record { answer = a; registers = ap (withRing d n) r; vectors = ap (raised n) v; resets = refl }
+
+pub in-ring : (d : Registers) (n : ℕ) {w : RingWritten} {of : Stored} {r : Written} → r ≡ ringDone d n w → RingGives w of (ringAt d n)
+    → Gives r (unlessRefused d (inRing d n of))
+unfolding unlessRefused inRing
+in-ring d n {w = w} {of = of} e g = rw e (ring-gives d n w of (eqb (of .refusal) 0) (g .answer) (g .ring) (g .raises))
+
+-- a ring that is set or left is so in the registers
+pub ring-chosen : (d : Registers) (n : ℕ) (t : Bool) (after : Ring) → withRing d n (choose t after (ringAt d n)) ≡ choose t (withRing d n after) d
 unfolding withRing
-kept d = refl
-
--- what a write makes of the ring, it makes of the registers
-pub in-ring : (d : Registers) {after : Ring} {w : RingWritten} {r : Written} {raises : Bool} (n : ℕ) → r ≡ inRing d w
-    → RingGives w n after raises (d .ring)
-    → Gives r (unlessRefused d (record { refusal = n; registers = withRing d after; interrupt = raises; resets = false }))
-unfolding inRing unlessRefused sets
-in-ring d zero e g =
-    rw e (record { answer = g .answer; registers = ap (withRing d) (g .ring); interrupt = g .interrupt; resets = refl })
-in-ring d (suc k) e g =
-    rw (e, eqb·suc-zero)
-    (record {
-      answer = g .answer;
-      registers = ap (withRing d) (rw eqb·suc-zero at (g .ring)) ∙ kept d;
-      interrupt = rw eqb·suc-zero at (g .interrupt);
-      resets = refl;
-    })
+ring-chosen d n true after = refl
+ring-chosen d n false after = refl
 
 -- fresh and link
 module _ {next before after : Registers} {n : ℕ} where

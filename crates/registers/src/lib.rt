@@ -1,14 +1,6 @@
 // The register file: fresh registers, reads and writes, and the owner's setting of a link. Whatever the registers hold, each call
 // gives exactly what the rules say. What a write does to the tables it only reports.
-mod access;
-mod ports;
-
-pub use ports::is_up;
-pub use ports::port_allowed;
-pub use ports::port_count_allowed;
 use ring::RingWritten;
-pub use ring::complete;
-pub use ring::complete_interrupt;
 use rules::Access;
 use rules::Answer;
 use rules::Register;
@@ -17,10 +9,14 @@ use rules::Ring;
 ghost use mathlib.Core.Path.{_≡_};
 ghost use mathlib.Core.Bool.{false};
 ghost use Prim.Native.Nat.{_<_, _^_};
-ghost use Rattle.rules.specs.Registers.{isWide, valueOf, readValue, latchOf, latchEffect, taken as Registers·taken, unlessRefused, store as Registers·store, writeTo, write as Registers·write, freshRegisters, withLinks, withTest, withTest64, withEnable, withRing, linkEffect, resetRegisters};
+ghost use lib.Dec.{ltb};
+ghost use Rattle.rules.specs.Choose.{choose};
+ghost use Rattle.rules.specs.Limits.{maxCredits};
+ghost use Rattle.rules.specs.Ring.{completeEffect, completeRaises};
+ghost use Rattle.rules.specs.Registers.{isWide, valueOf, readValue, latchOf, latchEffect, taken as Registers·taken, unlessRefused, store as Registers·store, writeTo, write as Registers·write, freshRegisters, withLinks, withTest, withTest64, withEnable, ringAt, withRing, commandRing, withCommandRing, linkEffect, resetRegisters};
 ghost use Rattle.rules.specs.Switch.{freshRefusal, linkRefusal};
-ghost use Rattle.registers.specs.Outcomes.{Reads, Gives, Changes, inRing, done as Outcomes·done};
-ghost use Rattle.registers.specs.Shapes.{Bounded, numberFor};
+ghost use Rattle.registers.specs.Outcomes.{Reads, Gives, Changes, ringDone, done as Outcomes·done};
+ghost use Rattle.registers.specs.Fits.{Bounded, numberFor};
 
 // What a register read gives.
 pub struct Reading {
@@ -65,7 +61,7 @@ fn fresh_registers(ports: u32, switch_id: u64) -> Registers
 pub fn fresh(ports: u64, switch_id: u64) -> Changed
     ensures { λ r. ⌜ Changes r (freshRefusal ports) (freshRegisters ports «switch_id») (freshRegisters 0 0) ⌝ }
 {
-    if !port_count_allowed(ports) {
+    if !ports::port_count_allowed(ports) {
         return Changed {
             answer: Answer::PortNotAllowed,
             registers: fresh_registers(0, 0),
@@ -90,7 +86,7 @@ fn reset(d: Registers) -> Registers
 pub fn link(d: Registers, port: u64, up: bool) -> Changed
     ensures { λ r. ⌜ Changes r (linkRefusal d port) (withLinks d (linkEffect (d .links) port up)) d ⌝ }
 {
-    if !port_allowed(d, port) {
+    if !ports::port_allowed(d, port) {
         return Changed {
             answer: Answer::PortNotAllowed,
             registers: d,
@@ -102,6 +98,45 @@ pub fn link(d: Registers, port: u64, up: bool) -> Changed
         answer: Answer::Done,
         registers: next,
     }
+}
+
+// ---- Rings
+
+// The ring of a number. There is one, the command ring, whatever the number.
+fn ring_at(d: Registers, n: u8) -> Ring
+    ensures { λ r. ⌜ r ≡ ringAt d n ⌝ }
+{
+    let ring = d.ring;
+    ring
+}
+
+fn with_ring(d: Registers, n: u8, ring: Ring) -> Registers
+    ensures { λ r. ⌜ r ≡ withRing d n ring ⌝ }
+{
+    let mut next = d;
+    next.ring = ring;
+    next
+}
+
+// Ring 0.
+pub fn command_ring(d: Registers) -> Ring
+    ensures { λ r. ⌜ r ≡ commandRing d ⌝ }
+{
+    ring_at(d, 0)
+}
+
+// The registers after a slot of the command ring is completed; with 65,536 credits they stay as they are.
+pub fn complete(d: Registers) -> Registers
+    ensures { λ r. ⌜ r ≡ choose (ltb (commandRing d .credits) maxCredits) (withCommandRing d (completeEffect (commandRing d))) d ⌝ }
+{
+    with_ring(d, 0, ring::complete(command_ring(d)))
+}
+
+// Whether completing a slot of the command ring raises its vector.
+pub fn complete_raises(d: Registers) -> bool
+    ensures { λ b. ⌜ b ≡ completeRaises (commandRing d) ⌝ }
+{
+    ring::complete_raises(command_ring(d))
 }
 
 // ---- Read
@@ -118,12 +153,7 @@ fn value_of(d: Registers, register: Register) -> u64
         Register::PortPhysLinkStatus => d.links,
         Register::PortPhysEnable => d.enable,
         Register::SwitchId => d.switch_id,
-        Register::BaseAddr => d.ring.base_addr,
-        Register::Size => d.ring.size as u64,
-        Register::Head => d.ring.head as u64,
-        Register::Tail => d.ring.tail as u64,
-        Register::Ctrl => 0,
-        Register::Credits => d.ring.credits as u64,
+        Register::OfRing(n, which) => ring::value(ring_at(d, n), which),
     }
 }
 
@@ -163,17 +193,15 @@ fn done(d: Registers) -> Written
 }
 
 // What a write makes of a ring, as what it makes of the registers.
-fn in_ring(d: Registers, w: RingWritten) -> Written
-    ensures { λ r. ⌜ r ≡ inRing d w ⌝ }
+fn in_ring(d: Registers, n: u8, w: RingWritten) -> Written
+    ensures { λ r. ⌜ r ≡ ringDone d n w ⌝ }
 {
-    let mut next = d;
     let ring = w.ring;
-    next.ring = ring;
     let answer = w.answer;
     Written {
         answer: answer,
-        registers: next,
-        interrupt: w.interrupt,
+        registers: with_ring(d, n, ring),
+        interrupt: w.raises,
         resets: false,
     }
 }
@@ -205,14 +233,6 @@ fn with_enable(d: Registers, v: u64, latch: u32) -> Registers
     next
 }
 
-fn with_ring(d: Registers, r: Ring) -> Registers
-    ensures { λ n. ⌜ n ≡ withRing d r ⌝ }
-{
-    let mut next = d;
-    next.ring = r;
-    next
-}
-
 // CONTROL: bit 0 resets the device.
 fn store_control(d: Registers, v: u64) -> Written
     ensures { λ w. ⌜ Gives w (unlessRefused d (Registers·store d Register.Control v)) ⌝ }
@@ -233,7 +253,6 @@ fn store(d: Registers, register: Register, v: u64) -> Written
     requires { ⌜ (isWide register ≡ false → v < 2 ^ 32) ⌝ }
     ensures { λ w. ⌜ Gives w (unlessRefused d (Registers·store d register v)) ⌝ }
 {
-    let ring = d.ring;
     match register {
         Register::Magic => done(d),
         Register::TestReg => done(with_test(d, v as u32)),
@@ -243,12 +262,7 @@ fn store(d: Registers, register: Register, v: u64) -> Written
         Register::PortPhysLinkStatus => done(d),
         Register::PortPhysEnable => done(with_enable(d, ports::port_bits(d.ports, v), 0)),
         Register::SwitchId => done(d),
-        Register::BaseAddr => in_ring(d, ring::write_base(ring, v)),
-        Register::Size => in_ring(d, ring::write_size(ring, v as u32)),
-        Register::Head => in_ring(d, ring::write_head(ring, v as u32)),
-        Register::Tail => done(d),
-        Register::Ctrl => done(with_ring(d, ring::write_ctrl(ring, v))),
-        Register::Credits => in_ring(d, ring::write_credits(ring, v as u32)),
+        Register::OfRing(n, which) => in_ring(d, n, ring::store(ring_at(d, n), which, v)),
     }
 }
 
@@ -265,19 +279,13 @@ fn latch_of(d: Registers, register: Register) -> u32
         Register::PortPhysLinkStatus => 0,
         Register::PortPhysEnable => d.enable_latch,
         Register::SwitchId => 0,
-        Register::BaseAddr => d.ring.base_latch,
-        Register::Size => 0,
-        Register::Head => 0,
-        Register::Tail => 0,
-        Register::Ctrl => 0,
-        Register::Credits => 0,
+        Register::OfRing(n, which) => ring::latch_of(ring_at(d, n), which),
     }
 }
 
 fn latch(d: Registers, register: Register, v: u32) -> Registers
     ensures { λ n. ⌜ n ≡ latchEffect d register v ⌝ }
 {
-    let ring = d.ring;
     match register {
         Register::Magic => d,
         Register::TestReg => d,
@@ -287,12 +295,7 @@ fn latch(d: Registers, register: Register, v: u32) -> Registers
         Register::PortPhysLinkStatus => d,
         Register::PortPhysEnable => with_enable(d, d.enable, v),
         Register::SwitchId => d,
-        Register::BaseAddr => with_ring(d, ring::latch_base(ring, v)),
-        Register::Size => d,
-        Register::Head => d,
-        Register::Tail => d,
-        Register::Ctrl => d,
-        Register::Credits => d,
+        Register::OfRing(n, which) => with_ring(d, n, ring::latch(ring_at(d, n), which, v)),
     }
 }
 

@@ -156,7 +156,7 @@ fn run_taken(d: Registers, r: Reader, line: &[u8]) -> Registers {
         complain(r.lines, b"too long");
         return d;
     }
-    let used = lines::least(r.used, line.len());
+    let used = numbers::min(r.used, line.len());
     run_line(d, &line[0..used], r.lines)
 }
 

@@ -1,21 +1,23 @@
-// A ring: what a write of each of its registers does to it, and what a completed slot does.
+// A ring: what each of its registers reads, what a write of it does, and what a completed slot does.
 use rules::Answer;
+use rules::MAX_CREDITS;
 use rules::Ring;
+use rules::RingRegister;
 ghost use mathlib.Core.Path.{_≡_};
 ghost use mathlib.Core.Bool.{false};
-ghost use Prim.Native.Nat.{_<_, _%_};
+ghost use Prim.Native.Nat.{_<_, _%_, _^_};
 ghost use lib.Dec.{ltb};
 ghost use Rattle.rules.specs.Choose.{choose};
-ghost use Rattle.rules.specs.Ring.{zeroRing, distance as Ring·distance, outstanding as Ring·outstanding, advance as Ring·advance, headRefusal, headEffect, baseRefusal, baseEffect, powerUpTo, sizeRefusal, sizeEffect, creditsRefusal, creditsEffect, creditsInterrupt, ctrlEffect, nextSlot, completeEffect, completeInterrupt};
-ghost use Rattle.rules.specs.Registers.{baseLatched};
+ghost use Rattle.rules.specs.Ring.{zeroRing, distance as Ring·distance, outstanding as Ring·outstanding, advance as Ring·advance, powerUpTo, ctrlEffect, ringWide, ringValue, ringStore, ringLatch, baseLatched, ringLatched, nextSlot, completeEffect, completeRaises};
 ghost use Rattle.ring.specs.Outcomes.{RingGives, refusedRing, acceptedRing};
 ghost use Rattle.ring.specs.Shapes.{headAllowed};
+ghost use Rattle.rules.specs.Limits.{maxCredits};
 
-// What a write makes of a ring.
+// What a write makes of a ring. `raises`: the ring's vector is raised.
 pub struct RingWritten {
     pub answer: Answer,
     pub ring: Ring,
-    pub interrupt: bool,
+    pub raises: bool,
 }
 
 fn refused(r: Ring) -> RingWritten
@@ -24,19 +26,21 @@ fn refused(r: Ring) -> RingWritten
     RingWritten {
         answer: Answer::ValueNotAllowed,
         ring: r,
-        interrupt: false,
+        raises: false,
     }
 }
 
-fn accepted(r: Ring, interrupt: bool) -> RingWritten
-    ensures { λ w. ⌜ w ≡ acceptedRing r interrupt ⌝ }
+fn accepted(r: Ring, raises: bool) -> RingWritten
+    ensures { λ w. ⌜ w ≡ acceptedRing r raises ⌝ }
 {
     RingWritten {
         answer: Answer::Done,
         ring: r,
-        interrupt: interrupt,
+        raises: raises,
     }
 }
+
+// ---- Registers, one by one
 
 pub fn zero() -> Ring
     ensures { λ r. ⌜ r ≡ zeroRing ⌝ }
@@ -51,7 +55,7 @@ pub fn zero() -> Ring
     }
 }
 
-pub fn latch_base(r: Ring, v: u32) -> Ring
+fn latch_base(r: Ring, v: u32) -> Ring
     ensures { λ n. ⌜ n ≡ baseLatched r v ⌝ }
 {
     let mut next = r;
@@ -59,8 +63,8 @@ pub fn latch_base(r: Ring, v: u32) -> Ring
     next
 }
 
-pub fn write_base(r: Ring, v: u64) -> RingWritten
-    ensures { λ w. ⌜ RingGives w (baseRefusal v) (baseEffect r v) false r ⌝ }
+fn write_base(r: Ring, v: u64) -> RingWritten
+    ensures { λ w. ⌜ RingGives w (ringStore r RingRegister.BaseAddr v) r ⌝ }
 {
     if v % 8 != 0 {
         return refused(r);
@@ -98,8 +102,8 @@ fn is_size(v: u32) -> bool
     }
 }
 
-pub fn write_size(r: Ring, v: u32) -> RingWritten
-    ensures { λ w. ⌜ RingGives w (sizeRefusal v) (sizeEffect r v) false r ⌝ }
+fn write_size(r: Ring, v: u32) -> RingWritten
+    ensures { λ w. ⌜ RingGives w (ringStore r RingRegister.Size v) r ⌝ }
 {
     if !is_size(v) {
         return refused(r);
@@ -154,8 +158,8 @@ fn head_allowed(r: Ring, new: u32) -> bool
     false
 }
 
-pub fn write_head(r: Ring, new: u32) -> RingWritten
-    ensures { λ w. ⌜ RingGives w (headRefusal r new) (headEffect r new) false r ⌝ }
+fn write_head(r: Ring, new: u32) -> RingWritten
+    ensures { λ w. ⌜ RingGives w (ringStore r RingRegister.Head new) r ⌝ }
 {
     if !head_allowed(r, new) {
         return refused(r);
@@ -165,8 +169,8 @@ pub fn write_head(r: Ring, new: u32) -> RingWritten
     accepted(next, false)
 }
 
-pub fn write_credits(r: Ring, n: u32) -> RingWritten
-    ensures { λ w. ⌜ RingGives w (creditsRefusal r n) (creditsEffect r n) (creditsInterrupt r n) r ⌝ }
+fn write_credits(r: Ring, n: u32) -> RingWritten
+    ensures { λ w. ⌜ RingGives w (ringStore r RingRegister.Credits n) r ⌝ }
 {
     if r.credits < n {
         return refused(r);
@@ -176,7 +180,7 @@ pub fn write_credits(r: Ring, n: u32) -> RingWritten
     accepted(next, n < r.credits)
 }
 
-pub fn write_ctrl(r: Ring, v: u64) -> Ring
+fn write_ctrl(r: Ring, v: u64) -> Ring
     ensures { λ n. ⌜ n ≡ ctrlEffect r v ⌝ }
 {
     if v % 2 == 1 {
@@ -184,6 +188,78 @@ pub fn write_ctrl(r: Ring, v: u64) -> Ring
     }
     r
 }
+
+// ---- By register
+
+// Whether it has 8 bytes.
+pub fn is_wide(which: RingRegister) -> bool
+    ensures { λ b. ⌜ b ≡ ringWide which ⌝ }
+{
+    match which {
+        RingRegister::BaseAddr => true,
+        RingRegister::Size => false,
+        RingRegister::Head => false,
+        RingRegister::Tail => false,
+        RingRegister::Ctrl => false,
+        RingRegister::Credits => false,
+    }
+}
+
+pub fn value(r: Ring, which: RingRegister) -> u64
+    ensures { λ n. ⌜ n ≡ ringValue r which ⌝ }
+{
+    match which {
+        RingRegister::BaseAddr => r.base_addr,
+        RingRegister::Size => r.size as u64,
+        RingRegister::Head => r.head as u64,
+        RingRegister::Tail => r.tail as u64,
+        RingRegister::Ctrl => 0,
+        RingRegister::Credits => r.credits as u64,
+    }
+}
+
+// A write of a whole register. One of 4 bytes takes a number of 32 bits.
+pub fn store(r: Ring, which: RingRegister, v: u64) -> RingWritten
+    requires { ⌜ (ringWide which ≡ false → v < 2 ^ 32) ⌝ }
+    ensures { λ w. ⌜ RingGives w (ringStore r which v) r ⌝ }
+{
+    match which {
+        RingRegister::BaseAddr => write_base(r, v),
+        RingRegister::Size => write_size(r, v as u32),
+        RingRegister::Head => write_head(r, v as u32),
+        RingRegister::Tail => accepted(r, false),
+        RingRegister::Ctrl => accepted(write_ctrl(r, v), false),
+        RingRegister::Credits => write_credits(r, v as u32),
+    }
+}
+
+pub fn latch_of(r: Ring, which: RingRegister) -> u32
+    ensures { λ n. ⌜ n ≡ ringLatch r which ⌝ }
+{
+    match which {
+        RingRegister::BaseAddr => r.base_latch,
+        RingRegister::Size => 0,
+        RingRegister::Head => 0,
+        RingRegister::Tail => 0,
+        RingRegister::Ctrl => 0,
+        RingRegister::Credits => 0,
+    }
+}
+
+pub fn latch(r: Ring, which: RingRegister, v: u32) -> Ring
+    ensures { λ n. ⌜ n ≡ ringLatched r which v ⌝ }
+{
+    match which {
+        RingRegister::BaseAddr => latch_base(r, v),
+        RingRegister::Size => r,
+        RingRegister::Head => r,
+        RingRegister::Tail => r,
+        RingRegister::Ctrl => r,
+        RingRegister::Credits => r,
+    }
+}
+
+// ---- A slot completed
 
 fn next_slot(size: u32, i: u32) -> u32
     ensures { λ n. ⌜ n ≡ nextSlot size i ⌝ }
@@ -197,9 +273,9 @@ fn next_slot(size: u32, i: u32) -> u32
 
 // The ring after a slot is completed. Process refuses at 65,536 credits, so one more fits; a ring that has them is left as it is.
 pub fn complete(r: Ring) -> Ring
-    ensures { λ n. ⌜ n ≡ choose (ltb (r .credits) 65536) (completeEffect r) r ⌝ }
+    ensures { λ n. ⌜ n ≡ choose (ltb (r .credits) maxCredits) (completeEffect r) r ⌝ }
 {
-    if 65536 <= r.credits {
+    if MAX_CREDITS <= r.credits {
         return r;
     }
     let mut next = r;
@@ -208,9 +284,9 @@ pub fn complete(r: Ring) -> Ring
     next
 }
 
-// Whether completing a slot raises vector 0.
-pub fn complete_interrupt(r: Ring) -> bool
-    ensures { λ b. ⌜ b ≡ completeInterrupt r ⌝ }
+// Whether completing a slot raises the ring's vector.
+pub fn complete_raises(r: Ring) -> bool
+    ensures { λ b. ⌜ b ≡ completeRaises r ⌝ }
 {
     r.credits == 0
 }

@@ -1,6 +1,6 @@
 use mathlib.Core.Path.{sym, _∙_}
 use borrow.Author.Tests.{not-true, not-false}
-use Rattle.registers.proofs.Bitmaps.{count-small}
+use Rattle.ports.proofs.Bitmaps.{count-small}
 use Rattle.registers.proofs.Outcomes.{port-refused, port-accepted}
 use Rattle.rules.specs.Switch.{freshRefusal}
 use native.Mathlib.Omega.{arith}

@@ -1,3 +1,4 @@
+use mathlib.Core.Path.{_∙_}
 use Rattle.rules.specs.Registers.{latchEffect}
 use borrow.Author.Needs.{needs}
 use Rattle.registers.proofs.latch.Statement.{statement}
@@ -33,29 +34,17 @@ with-enable-requires c κs = search needs
 enum-told-8 : tie.Need-enum-told-8
 enum-told-8 c = search needs
 
-enum-told-9 : tie.Need-enum-told-9
-enum-told-9 c = search needs
+enum-known-register : tie.Need-enum-known-register
+enum-known-register c = search needs
 
-latch-base-requires : tie.Need-latch-base-requires
-latch-base-requires c κs = search needs
+ring-at-requires : tie.Need-ring-at-requires
+ring-at-requires c κs = search needs
+
+latch-requires : tie.Need-latch-requires
+latch-requires c κs = search needs
 
 with-ring-requires : tie.Need-with-ring-requires
 with-ring-requires c κs = search needs
-
-enum-told-10 : tie.Need-enum-told-10
-enum-told-10 c = search needs
-
-enum-told-11 : tie.Need-enum-told-11
-enum-told-11 c = search needs
-
-enum-told-12 : tie.Need-enum-told-12
-enum-told-12 c = search needs
-
-enum-told-13 : tie.Need-enum-told-13
-enum-told-13 c = search needs
-
-enum-told-14 : tie.Need-enum-told-14
-enum-told-14 c = search needs
 
 returns : tie.Need-returns
 unfolding latchEffect
@@ -91,27 +80,9 @@ returns-8 c = rw (c .enum-told8 .given .1)
 
 returns-9 : tie.Need-returns-9
 unfolding latchEffect
-returns-9 c = rw (c .before .before .enum-told9 .given .1, ← c .before .latch-base .ensures) (c .with-ring .ensures)
-
-returns-10 : tie.Need-returns-10
-unfolding latchEffect
-returns-10 c = rw (c .enum-told10 .given .1)
-
-returns-11 : tie.Need-returns-11
-unfolding latchEffect
-returns-11 c = rw (c .enum-told11 .given .1)
-
-returns-12 : tie.Need-returns-12
-unfolding latchEffect
-returns-12 c = rw (c .enum-told12 .given .1)
-
-returns-13 : tie.Need-returns-13
-unfolding latchEffect
-returns-13 c = rw (c .enum-told13 .given .1)
-
-returns-14 : tie.Need-returns-14
-unfolding latchEffect
-returns-14 c = rw (c .enum-told14 .given .1)
+returns-9 c =
+    rw (c .before .before .before .before .register .given .1)
+    (c .with-ring .ensures ∙ rw (c .before .latch .ensures, c .before .before .ring-at .ensures))
 
 pub latch-spec : {M : Type 1} → statement M
 latch-spec =
@@ -127,14 +98,10 @@ latch-spec =
     enum-told-7
     with-enable-requires
     enum-told-8
-    enum-told-9
-    latch-base-requires
+    enum-known-register
+    ring-at-requires
+    latch-requires
     with-ring-requires
-    enum-told-10
-    enum-told-11
-    enum-told-12
-    enum-told-13
-    enum-told-14
     returns
     returns-2
     returns-3
@@ -143,9 +110,4 @@ latch-spec =
     returns-6
     returns-7
     returns-8
-    returns-9
-    returns-10
-    returns-11
-    returns-12
-    returns-13
-    returns-14)
+    returns-9)

@@ -27,23 +27,14 @@ enum-told-7 c = search needs
 enum-told-8 : tie.Need-enum-told-8
 enum-told-8 c = search needs
 
-enum-told-9 : tie.Need-enum-told-9
-enum-told-9 c = search needs
+enum-known-register : tie.Need-enum-known-register
+enum-known-register c = search needs
 
-enum-told-10 : tie.Need-enum-told-10
-enum-told-10 c = search needs
+ring-at-requires : tie.Need-ring-at-requires
+ring-at-requires c κs = search needs
 
-enum-told-11 : tie.Need-enum-told-11
-enum-told-11 c = search needs
-
-enum-told-12 : tie.Need-enum-told-12
-enum-told-12 c = search needs
-
-enum-told-13 : tie.Need-enum-told-13
-enum-told-13 c = search needs
-
-enum-told-14 : tie.Need-enum-told-14
-enum-told-14 c = search needs
+latch-of-requires : tie.Need-latch-of-requires
+latch-of-requires c κs = search needs
 
 returns : tie.Need-returns
 unfolding latchOf
@@ -79,27 +70,7 @@ returns-8 c = rw (c .enum-told8 .given .1)
 
 returns-9 : tie.Need-returns-9
 unfolding latchOf
-returns-9 c = rw (c .enum-told9 .given .1)
-
-returns-10 : tie.Need-returns-10
-unfolding latchOf
-returns-10 c = rw (c .enum-told10 .given .1)
-
-returns-11 : tie.Need-returns-11
-unfolding latchOf
-returns-11 c = rw (c .enum-told11 .given .1)
-
-returns-12 : tie.Need-returns-12
-unfolding latchOf
-returns-12 c = rw (c .enum-told12 .given .1)
-
-returns-13 : tie.Need-returns-13
-unfolding latchOf
-returns-13 c = rw (c .enum-told13 .given .1)
-
-returns-14 : tie.Need-returns-14
-unfolding latchOf
-returns-14 c = rw (c .enum-told14 .given .1)
+returns-9 c = rw (c .before .before .before .register .given .1, ← c .before .ring-at .ensures) (c .latch-of .ensures)
 
 pub latch-of-spec : {M : Type 1} → statement M
 latch-of-spec =
@@ -113,12 +84,9 @@ latch-of-spec =
     enum-told-6
     enum-told-7
     enum-told-8
-    enum-told-9
-    enum-told-10
-    enum-told-11
-    enum-told-12
-    enum-told-13
-    enum-told-14
+    enum-known-register
+    ring-at-requires
+    latch-of-requires
     returns
     returns-2
     returns-3
@@ -127,9 +95,4 @@ latch-of-spec =
     returns-6
     returns-7
     returns-8
-    returns-9
-    returns-10
-    returns-11
-    returns-12
-    returns-13
-    returns-14)
+    returns-9)

@@ -1,6 +1,6 @@
 use mathlib.Core.Path.{refl, sym, _∙_}
 use borrow.Author.Tests.{not-true, not-false}
-use Rattle.registers.proofs.Bitmaps.{port-small}
+use Rattle.ports.proofs.Bitmaps.{port-small}
 use Rattle.registers.proofs.Outcomes.{port-refused, port-accepted}
 use Rattle.rules.specs.Registers.{withLinks}
 use Rattle.rules.specs.Switch.{linkRefusal}

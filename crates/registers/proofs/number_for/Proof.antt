@@ -1,6 +1,6 @@
 use Prim.Native.Nat.{_<_, _^_}
 use Rattle.rules.specs.Registers.{joined}
-use Rattle.registers.specs.Shapes.{Bounded, numberFor}
+use Rattle.registers.specs.Fits.{Bounded, numberFor}
 use native.Mathlib.Omega.{arith}
 use borrow.Author.Needs.{needs}
 use Rattle.registers.proofs.number_for.Statement.{statement}

@@ -1,6 +1,6 @@
 use mathlib.Core.Path.{refl, _∙_}
 use Rattle.registers.proofs.Outcomes.{accepted, in-ring}
-use Rattle.rules.specs.Registers.{store, sets, isWide}
+use Rattle.rules.specs.Registers.{isWide, store}
 use borrow.Author.Needs.{needs}
 use Rattle.registers.proofs.store.Statement.{statement}
 use Rattle.registers.proofs.store.Tie as tie
@@ -16,7 +16,7 @@ enum-told-2 c = search needs
 
 cast-with-test : tie.Need-cast-with-test
 unfolding isWide
-cast-with-test c = record { fits = c .before .before .before .pre (rw (c .enum-told2 .given .1)) }
+cast-with-test c = record { fits = c .before .before .pre (rw (c .enum-told2 .given .1)) }
 
 with-test-requires : tie.Need-with-test-requires
 with-test-requires c κs = search needs
@@ -69,71 +69,18 @@ enum-told-8 c = search needs
 done-requires-7 : tie.Need-done-requires-7
 done-requires-7 c κs = search needs
 
-enum-told-9 : tie.Need-enum-told-9
-enum-told-9 c = search needs
+enum-known-register : tie.Need-enum-known-register
+enum-known-register c = search needs
 
-write-base-requires : tie.Need-write-base-requires
-write-base-requires c κs = search needs
+ring-at-requires : tie.Need-ring-at-requires
+ring-at-requires c κs = search needs
+
+store-requires : tie.Need-store-requires
+unfolding isWide
+store-requires c κs = λ n. c .before .before .before .before .pre (rw (c .before .before .register .given .1) n)
 
 in-ring-requires : tie.Need-in-ring-requires
 in-ring-requires c κs = search needs
-
-enum-told-10 : tie.Need-enum-told-10
-enum-told-10 c = search needs
-
-cast-write-size : tie.Need-cast-write-size
-unfolding isWide
-cast-write-size c = record { fits = c .before .before .before .pre (rw (c .enum-told10 .given .1)) }
-
-write-size-requires : tie.Need-write-size-requires
-write-size-requires c κs = search needs
-
-in-ring-requires-2 : tie.Need-in-ring-requires-2
-in-ring-requires-2 c κs = search needs
-
-enum-told-11 : tie.Need-enum-told-11
-enum-told-11 c = search needs
-
-cast-write-head : tie.Need-cast-write-head
-unfolding isWide
-cast-write-head c = record { fits = c .before .before .before .pre (rw (c .enum-told11 .given .1)) }
-
-write-head-requires : tie.Need-write-head-requires
-write-head-requires c κs = search needs
-
-in-ring-requires-3 : tie.Need-in-ring-requires-3
-in-ring-requires-3 c κs = search needs
-
-enum-told-12 : tie.Need-enum-told-12
-enum-told-12 c = search needs
-
-done-requires-8 : tie.Need-done-requires-8
-done-requires-8 c κs = search needs
-
-enum-told-13 : tie.Need-enum-told-13
-enum-told-13 c = search needs
-
-write-ctrl-requires : tie.Need-write-ctrl-requires
-write-ctrl-requires c κs = search needs
-
-with-ring-requires : tie.Need-with-ring-requires
-with-ring-requires c κs = search needs
-
-done-requires-9 : tie.Need-done-requires-9
-done-requires-9 c κs = search needs
-
-enum-told-14 : tie.Need-enum-told-14
-enum-told-14 c = search needs
-
-cast-write-credits : tie.Need-cast-write-credits
-unfolding isWide
-cast-write-credits c = record { fits = c .before .before .before .pre (rw (c .enum-told14 .given .1)) }
-
-write-credits-requires : tie.Need-write-credits-requires
-write-credits-requires c κs = search needs
-
-in-ring-requires-4 : tie.Need-in-ring-requires-4
-in-ring-requires-4 c κs = search needs
 
 returns : tie.Need-returns
 unfolding store
@@ -160,39 +107,15 @@ returns-6 c = rw (c .before .enum-told6 .given .1) (accepted _ (c .done5 .ensure
 
 returns-7 : tie.Need-returns-7
 unfolding store
-returns-7 c =
-    rw (c .before .before .before .enum-told7 .given .1)
-    (accepted _ (c .done6 .ensures) (c .before .with-enable .ensures ∙ rw (c .before .before .port-bits .ensures)))
+returns-7 c = rw (c .before .before .before .enum-told7 .given .1) (accepted _ (c .done6 .ensures) (c .before .with-enable .ensures ∙ rw (c .before .before .port-bits .ensures)))
 
 returns-8 : tie.Need-returns-8
 unfolding store
 returns-8 c = rw (c .before .enum-told8 .given .1) (accepted _ (c .done7 .ensures) refl)
 
 returns-9 : tie.Need-returns-9
-unfolding store sets
-returns-9 c = rw (c .before .before .enum-told9 .given .1) (in-ring _ _ (c .in-ring .ensures) (c .before .write-base .ensures))
-
-returns-10 : tie.Need-returns-10
-unfolding store sets
-returns-10 c = rw (c .before .before .enum-told10 .given .1) (in-ring _ _ (c .in-ring2 .ensures) (c .before .write-size .ensures))
-
-returns-11 : tie.Need-returns-11
-unfolding store sets
-returns-11 c = rw (c .before .before .enum-told11 .given .1) (in-ring _ _ (c .in-ring3 .ensures) (c .before .write-head .ensures))
-
-returns-12 : tie.Need-returns-12
 unfolding store
-returns-12 c = rw (c .before .enum-told12 .given .1) (accepted _ (c .done8 .ensures) refl)
-
-returns-13 : tie.Need-returns-13
-unfolding store
-returns-13 c =
-    rw (c .before .before .before .enum-told13 .given .1)
-    (accepted _ (c .done9 .ensures) (c .before .with-ring .ensures ∙ rw (c .before .before .write-ctrl .ensures)))
-
-returns-14 : tie.Need-returns-14
-unfolding store sets
-returns-14 c = rw (c .before .before .enum-told14 .given .1) (in-ring _ _ (c .in-ring4 .ensures) (c .before .write-credits .ensures))
+returns-9 c = rw (c .before .before .before .before .register .given .1) (in-ring _ _ (c .in-ring .ensures) (rw (c .before .before .ring-at .ensures) at (c .before .store .ensures)))
 
 pub store-spec : {M : Type 1} → statement M
 store-spec =
@@ -219,27 +142,10 @@ store-spec =
     done-requires-6
     enum-told-8
     done-requires-7
-    enum-told-9
-    write-base-requires
+    enum-known-register
+    ring-at-requires
+    store-requires
     in-ring-requires
-    enum-told-10
-    cast-write-size
-    write-size-requires
-    in-ring-requires-2
-    enum-told-11
-    cast-write-head
-    write-head-requires
-    in-ring-requires-3
-    enum-told-12
-    done-requires-8
-    enum-told-13
-    write-ctrl-requires
-    with-ring-requires
-    done-requires-9
-    enum-told-14
-    cast-write-credits
-    write-credits-requires
-    in-ring-requires-4
     returns
     returns-2
     returns-3
@@ -248,9 +154,4 @@ store-spec =
     returns-6
     returns-7
     returns-8
-    returns-9
-    returns-10
-    returns-11
-    returns-12
-    returns-13
-    returns-14)
+    returns-9)

@@ -2,7 +2,7 @@ use mathlib.Core.Path.{refl}
 use Rattle.registers.proofs.Outcomes.{accepted}
 use borrow.Author.Tests.{eq-eqb, ne-eqb}
 use Rattle.rules.specs.Answers.{number}
-use Rattle.rules.specs.Registers.{store, sets, unlessRefused}
+use Rattle.rules.specs.Registers.{store, raised, sets, unlessRefused}
 use borrow.Author.Needs.{needs}
 use Rattle.registers.proofs.store_control.Statement.{statement}
 use Rattle.registers.proofs.store_control.Tie as tie
@@ -11,8 +11,8 @@ reset-requires : tie.Need-reset-requires
 reset-requires c κs = search needs
 
 returns : tie.Need-returns
-unfolding store sets unlessRefused number
-returns c = simp (eq-eqb _ _ (c .before .if1 .taken)) (record { answer = refl; registers = c .reset .ensures; interrupt = refl; resets = refl })
+unfolding store sets unlessRefused number raised
+returns c = simp (eq-eqb _ _ (c .before .if1 .taken)) (record { answer = refl; registers = c .reset .ensures; vectors = refl; resets = refl })
 
 done-requires : tie.Need-done-requires
 done-requires c κs = search needs

@@ -39,35 +39,14 @@ enum-told-7 c = search needs
 enum-told-8 : tie.Need-enum-told-8
 enum-told-8 c = search needs
 
-enum-told-9 : tie.Need-enum-told-9
-enum-told-9 c = search needs
+enum-known-register : tie.Need-enum-known-register
+enum-known-register c = search needs
 
-enum-told-10 : tie.Need-enum-told-10
-enum-told-10 c = search needs
+ring-at-requires : tie.Need-ring-at-requires
+ring-at-requires c κs = search needs
 
-cast-result-3 : tie.Need-cast-result-3
-cast-result-3 c = search needs
-
-enum-told-11 : tie.Need-enum-told-11
-enum-told-11 c = search needs
-
-cast-result-4 : tie.Need-cast-result-4
-cast-result-4 c = search needs
-
-enum-told-12 : tie.Need-enum-told-12
-enum-told-12 c = search needs
-
-cast-result-5 : tie.Need-cast-result-5
-cast-result-5 c = search needs
-
-enum-told-13 : tie.Need-enum-told-13
-enum-told-13 c = search needs
-
-enum-told-14 : tie.Need-enum-told-14
-enum-told-14 c = search needs
-
-cast-result-6 : tie.Need-cast-result-6
-cast-result-6 c = search needs
+value-requires : tie.Need-value-requires
+value-requires c κs = search needs
 
 returns : tie.Need-returns
 unfolding valueOf
@@ -103,27 +82,7 @@ returns-8 c = rw (c .enum-told8 .given .1)
 
 returns-9 : tie.Need-returns-9
 unfolding valueOf
-returns-9 c = rw (c .enum-told9 .given .1)
-
-returns-10 : tie.Need-returns-10
-unfolding valueOf
-returns-10 c = rw (c .before .enum-told10 .given .1)
-
-returns-11 : tie.Need-returns-11
-unfolding valueOf
-returns-11 c = rw (c .before .enum-told11 .given .1)
-
-returns-12 : tie.Need-returns-12
-unfolding valueOf
-returns-12 c = rw (c .before .enum-told12 .given .1)
-
-returns-13 : tie.Need-returns-13
-unfolding valueOf
-returns-13 c = rw (c .enum-told13 .given .1)
-
-returns-14 : tie.Need-returns-14
-unfolding valueOf
-returns-14 c = rw (c .before .enum-told14 .given .1)
+returns-9 c = rw (c .before .before .before .register .given .1, ← c .before .ring-at .ensures) (c .value .ensures)
 
 pub value-of-spec : {M : Type 1} → statement M
 value-of-spec =
@@ -141,16 +100,9 @@ value-of-spec =
     enum-told-6
     enum-told-7
     enum-told-8
-    enum-told-9
-    enum-told-10
-    cast-result-3
-    enum-told-11
-    cast-result-4
-    enum-told-12
-    cast-result-5
-    enum-told-13
-    enum-told-14
-    cast-result-6
+    enum-known-register
+    ring-at-requires
+    value-requires
     returns
     returns-2
     returns-3
@@ -159,9 +111,4 @@ value-of-spec =
     returns-6
     returns-7
     returns-8
-    returns-9
-    returns-10
-    returns-11
-    returns-12
-    returns-13
-    returns-14)
+    returns-9)

@@ -1,4 +1,4 @@
-use Rattle.registers.proofs.Reach.{taken-fits}
+use Rattle.registers.proofs.Fits.{taken-fits}
 use Rattle.rules.specs.Registers.{write}
 use borrow.Author.Needs.{needs}
 use Rattle.registers.proofs.write.Statement.{statement}

@@ -1,11 +1,13 @@
+-- A register is reached whole or by its upper half: one call of `store` serves both.
+-- Assumes nothing.
 use Rattle.rules.proofs.Cases.{true-or-false}
 use Rattle.rules.specs.declared.Access.the-variants.{Whole, Upper}
 use mathlib.Core.Logic.{_⊎_, inl, inr, ⊎-elim}
 use mathlib.Core.Path.{_≡_, refl, sym, ap, _∙_}
-use Rattle.registers.specs.Shapes.{Bounded, numberFor}
+use Rattle.registers.specs.Fits.{Bounded, numberFor}
 use Rattle.registers.proofs.Outcomes.{accepted}
 use Rattle.rules.specs.Answers.{number}
-use Rattle.rules.specs.Registers.{writeTo, sets, unlessRefused}
+use Rattle.rules.specs.Registers.{writeTo, raised, sets, unlessRefused}
 use borrow.Author.Needs.{needs}
 use Rattle.registers.proofs.write_to.Statement.{statement}
 use Rattle.registers.proofs.write_to.Tie as tie
@@ -59,8 +61,8 @@ store-requires c κs =
     (reached c)
 
 returns : tie.Need-returns
-unfolding writeTo sets unlessRefused number
-returns c = rw (c .enum-told .given .1) (record { answer = refl; registers = refl; interrupt = refl; resets = refl })
+unfolding writeTo sets unlessRefused number raised
+returns c = rw (c .enum-told .given .1) (record { answer = refl; registers = refl; vectors = refl; resets = refl })
 
 returns-2 : tie.Need-returns-2
 unfolding writeTo

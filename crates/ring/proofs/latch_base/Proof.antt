@@ -1,4 +1,4 @@
-use Rattle.rules.specs.Registers.{baseLatched}
+use Rattle.rules.specs.Ring.{baseLatched}
 use borrow.Author.Needs.{needs}
 use Rattle.ring.proofs.latch_base.Statement.{statement}
 use Rattle.ring.proofs.latch_base.Tie as tie

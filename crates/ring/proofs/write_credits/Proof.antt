@@ -1,5 +1,5 @@
 use borrow.Author.Tests.{lt-ltb, le-ltb}
-use Rattle.rules.specs.Ring.{creditsRefusal, creditsEffect, creditsInterrupt}
+use Rattle.rules.specs.Ring.{ringStore, creditsRefusal, creditsEffect, creditsRaises}
 use mathlib.Core.Path.{refl}
 use Rattle.ring.proofs.Outcomes.{ring-refused, ring-accepted}
 use borrow.Author.Needs.{needs}
@@ -10,14 +10,14 @@ refused-requires : tie.Need-refused-requires
 refused-requires c κs = search needs
 
 returns : tie.Need-returns
-unfolding creditsRefusal
+unfolding ringStore creditsRefusal
 returns c = ring-refused (c .refused .ensures) (simp (lt-ltb _ _ (c .before .if1 .taken)))
 
 accepted-requires : tie.Need-accepted-requires
 accepted-requires c κs = search needs
 
 returns-2 : tie.Need-returns-2
-unfolding creditsRefusal creditsEffect creditsInterrupt
+unfolding ringStore creditsRefusal creditsEffect creditsRaises
 returns-2 c = ring-accepted (c .accepted .ensures) (simp (le-ltb _ _ (c .before .before .before .if1 .left))) refl refl
 
 pub write-credits-spec : {M : Type 1} → statement M

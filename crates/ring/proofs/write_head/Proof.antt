@@ -1,6 +1,6 @@
 use borrow.Author.Tests.{not-true, not-false}
 use Rattle.ring.specs.Shapes.{headAllowed}
-use Rattle.rules.specs.Ring.{headRefusal, headEffect}
+use Rattle.rules.specs.Ring.{ringStore, headRefusal, headEffect}
 use mathlib.Core.Path.{refl}
 use Rattle.ring.proofs.Outcomes.{ring-refused, ring-accepted}
 use borrow.Author.Needs.{needs}
@@ -14,7 +14,7 @@ refused-requires : tie.Need-refused-requires
 refused-requires c κs = search needs
 
 returns : tie.Need-returns
-unfolding headRefusal headAllowed
+unfolding ringStore headRefusal headAllowed
 returns c =
     let f = c .before .before .head-allowed in
     ring-refused (c .refused .ensures) (simp (← f .ensures, not-true (f .result) (c .before .if1 .taken)))
@@ -23,7 +23,7 @@ accepted-requires : tie.Need-accepted-requires
 accepted-requires c κs = search needs
 
 returns-2 : tie.Need-returns-2
-unfolding headRefusal headAllowed headEffect
+unfolding ringStore headRefusal headAllowed headEffect
 returns-2 c =
     let f = c .before .before .head-allowed in
     ring-accepted (c .accepted .ensures) (simp (← f .ensures, not-false (f .result) (c .before .if1 .left))) refl refl

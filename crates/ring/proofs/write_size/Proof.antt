@@ -1,5 +1,5 @@
 use borrow.Author.Tests.{not-true, not-false}
-use Rattle.rules.specs.Ring.{sizeRefusal, sizeEffect}
+use Rattle.rules.specs.Ring.{ringStore, sizeRefusal, sizeEffect}
 use mathlib.Core.Path.{refl}
 use Rattle.ring.proofs.Outcomes.{ring-refused, ring-accepted}
 use borrow.Author.Needs.{needs}
@@ -13,7 +13,7 @@ refused-requires : tie.Need-refused-requires
 refused-requires c κs = search needs
 
 returns : tie.Need-returns
-unfolding sizeRefusal
+unfolding ringStore sizeRefusal
 returns c =
     let f = c .before .before .is-size in
     ring-refused (c .refused .ensures) (simp (← f .ensures, not-true (f .result) (c .before .if1 .taken)))
@@ -22,7 +22,7 @@ accepted-requires : tie.Need-accepted-requires
 accepted-requires c κs = search needs
 
 returns-2 : tie.Need-returns-2
-unfolding sizeRefusal sizeEffect
+unfolding ringStore sizeRefusal sizeEffect
 returns-2 c =
     let f = c .before .before .is-size in
     ring-accepted (c .accepted .ensures) (simp (← f .ensures, not-false (f .result) (c .before .if1 .left))) refl refl
