@@ -1,4 +1,4 @@
--- The count of a group that is allowed fits its field.
+-- The count of a group that is allowed fits its field: it is one of the tests of `membersRight`, taken out of the conjunction.
 -- Assumes nothing.
 use Prim.Native.Nat.{ℕ, _<_}
 use mathlib.Core.Path.{_≡_}
@@ -8,18 +8,20 @@ use native.Mathlib.Omega.{arith}
 use lib.ListN.{length}
 use lib.Dec.{leb, eqb}
 use borrow.Author.Tests.{leb-true}
+use Rattle.rules.specs.Limits.{maxPorts}
 use Rattle.rules.specs.Fields.{value}
 use Rattle.rules.specs.GroupId.{groupType, groupIdAllowed}
 use Rattle.rules.specs.Members.{Collected, membersRight}
 use Rattle.rules.specs.Decode.{groupAllowed}
+use Rattle.rules.specs.declared.Terms.{Terms}
 use Rattle.rules.proofs.Cases.{and-left, and-right}
 
 right-count : (count : ℕ) (c : Collected) → membersRight count c ≡ true → count < 256
 unfolding membersRight
 right-count count c e =
-    omega (arith, leb-true count 62 (and-right (c .right && leb 1 count) (leb count 62) (and-left _ (eqb (length (c .lows)) count) e)))
+    omega (arith, leb-true count maxPorts (and-right (c .right && leb 1 count) (leb count maxPorts) (and-left _ (eqb (length (c .lows)) count) e)))
 
-pub count-fits : (ports : ℕ) (s : List ℕ) (id : ℕ) (c : Collected) → groupAllowed ports s id c ≡ true → eqb (groupType id) 0 ≡ false
+pub count-fits : (terms : Terms) (s : List ℕ) (id : ℕ) (c : Collected) → groupAllowed terms s id c ≡ true → eqb (groupType id) 0 ≡ false
     → value s 12 < 256
 unfolding groupAllowed
-count-fits ports s id c a e = right-count (value s 12) c (rw e at (and-right (groupIdAllowed id) _ a))
+count-fits terms s id c a e = right-count (value s 12) c (rw e at (and-right (groupIdAllowed id) _ a))

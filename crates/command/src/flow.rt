@@ -7,22 +7,26 @@ ghost use Rattle.rules.specs.Fields.{value};
 ghost use Rattle.rules.specs.Decode.{matchOf, flowOf, groupFits, newVlanFits, matchAllowed, flowUser, isTable, flowIn, flowKeyIn};
 ghost use Rattle.rules.specs.declared.Command.the-variants.{FlowAdd, FlowMod};
 ghost use Rattle.tlv.specs.Index.{Indexed};
+ghost use Rattle.rules.specs.Limits.{fieldTypes};
 use rules::Command;
 use rules::Decoding;
+use rules::FIELD_TYPES;
 use rules::Flow;
+use rules::MAX_MEMBERS;
 use rules::Match;
 use rules::Status;
+use rules::Terms;
 
 // A VLAN, which is big-endian.
-fn vlan(s: &[u8], places: &[usize; 44], t: u32) -> u16
-    requires { ⌜ (Indexed (now s) (now places)) × (t < 44) ⌝ }
+fn vlan(s: &[u8], places: &[usize; FIELD_TYPES], t: u32) -> u16
+    requires { ⌜ (Indexed (now s) (now places)) × (t < fieldTypes) ⌝ }
     ensures { λ r. ⌜ r ≡ swap16 (value (now (s .entry)) t) ⌝ }
 {
     let v = fields::value(s, places, t);
     (v % 256 * 256 + v / 256 % 256) as u16
 }
 
-fn match_of(s: &[u8], places: &[usize; 44], t: u64) -> Match
+fn match_of(s: &[u8], places: &[usize; FIELD_TYPES], t: u64) -> Match
     requires { ⌜ Indexed (now s) (now places) ⌝ }
     ensures { λ r. ⌜ r ≡ matchOf (now (s .entry)) t ⌝ }
 {
@@ -48,7 +52,7 @@ fn match_of(s: &[u8], places: &[usize; 44], t: u64) -> Match
     }
 }
 
-fn flow_of(s: &[u8], places: &[usize; 44], t: u64) -> Flow
+fn flow_of(s: &[u8], places: &[usize; FIELD_TYPES], t: u64) -> Flow
     requires { ⌜ Indexed (now s) (now places) ⌝ }
     ensures { λ r. ⌜ r ≡ flowOf (now (s .entry)) t ⌝ }
 {
@@ -89,8 +93,8 @@ fn new_vlan_fits(vlan: u16, has_new: bool, new: u16) -> bool
     }
 }
 
-fn match_allowed(ports: u32, goto_tbl: u16, has_new: bool, m: Match) -> bool
-    ensures { λ r. ⌜ r ≡ matchAllowed ports «goto_tbl» «has_new» m ⌝ }
+fn match_allowed(terms: Terms, goto_tbl: u16, has_new: bool, m: Match) -> bool
+    ensures { λ r. ⌜ r ≡ matchAllowed terms «goto_tbl» «has_new» m ⌝ }
 {
     match m {
         Match::IngressPort {
@@ -103,7 +107,7 @@ fn match_allowed(ports: u32, goto_tbl: u16, has_new: bool, m: Match) -> bool
             new_vlan_id,
         } => {
             (1 <= in_pport)
-                & (in_pport <= ports)
+                & (in_pport <= terms.ports)
                 & ((goto_tbl == 20) | (goto_tbl == 0))
                 & new_vlan_fits(vlan_id, has_new, new_vlan_id)
         }
@@ -150,9 +154,9 @@ fn flow_command(add: bool, f: Flow) -> Command
 }
 
 // Flow add and mod.
-pub fn flow_in(ports: u32, s: &[u8], places: &[usize; 44], add: bool) -> Decoding
+pub fn flow_in(terms: Terms, s: &[u8], places: &[usize; FIELD_TYPES], add: bool) -> Decoding
     requires { ⌜ Indexed (now s) (now places) ⌝ }
-    ensures { λ r. ⌜ r ≡ flowIn ports (now (s .entry)) (choose add FlowAdd FlowMod) ⌝ }
+    ensures { λ r. ⌜ r ≡ flowIn terms (now (s .entry)) (choose add FlowAdd FlowMod) ⌝ }
 {
     if !fields::given(s, places, fields::TBL) {
         return super::refused(Status::Einval);
@@ -165,14 +169,14 @@ pub fn flow_in(ports: u32, s: &[u8], places: &[usize; 44], add: bool) -> Decodin
     let matching = flow.matching;
     let has_new = fields::given(s, places, fields::NEW_VLAN_ID);
     if !(fields::fields_right(s, places, flow_user(t))
-        & match_allowed(ports, flow.goto_tbl, has_new, matching)) {
+        & match_allowed(terms, flow.goto_tbl, has_new, matching)) {
         return super::refused(Status::Einval);
     }
-    super::carried(flow_command(add, flow), [0; 62])
+    super::carried(flow_command(add, flow), [0; MAX_MEMBERS])
 }
 
 // Flow del.
-pub fn flow_key_in(s: &[u8], places: &[usize; 44]) -> Decoding
+pub fn flow_key_in(s: &[u8], places: &[usize; FIELD_TYPES]) -> Decoding
     requires { ⌜ Indexed (now s) (now places) ⌝ }
     ensures { λ r. ⌜ r ≡ flowKeyIn (now (s .entry)) ⌝ }
 {
@@ -181,6 +185,6 @@ pub fn flow_key_in(s: &[u8], places: &[usize; 44]) -> Decoding
     }
     super::carried(
         Command::FlowDel(fields::value(s, places, fields::COOKIE)),
-        [0; 62],
+        [0; MAX_MEMBERS],
     )
 }

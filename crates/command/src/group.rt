@@ -11,15 +11,17 @@ ghost use Rattle.rules.specs.Decode.{groupOf, membersOf, groupAllowed, groupUse
 ghost use Rattle.rules.specs.declared.Command.the-variants.{GroupAdd, GroupMod};
 ghost use Rattle.members.specs.Listed.{listed};
 ghost use Rattle.tlv.specs.Index.{Indexed};
-use fields::found;
 use members::Members;
 use rules::Command;
 use rules::Decoding;
+use rules::FIELD_TYPES;
 use rules::Group;
+use rules::MAX_MEMBERS;
 use rules::Status;
+use rules::Terms;
 
 // The group itself. Its count was compared with its members, so it fits 8 bits.
-fn group_of(s: &[u8], places: &[usize; 44], id: u32) -> Group
+fn group_of(s: &[u8], places: &[usize; FIELD_TYPES], id: u32) -> Group
     requires { ⌜ (Indexed (now s) (now places)) × (eqb (groupType id) 0 ≡ false → value (now s) 12 < 256) ⌝ }
     ensures { λ r. ⌜ r ≡ groupOf (now (s .entry)) id ⌝ }
 {
@@ -38,7 +40,7 @@ fn group_of(s: &[u8], places: &[usize; 44], id: u32) -> Group
     }
 }
 
-fn members_of(s: &[u8], places: &[usize; 44], id: u32) -> Members
+fn members_of(s: &[u8], places: &[usize; FIELD_TYPES], id: u32) -> Members
     requires { ⌜ Indexed (now s) (now places) ⌝ }
     ensures { λ r. ⌜ r ≡ listed (value (now (s .entry)) 12) (membersOf (now (s .entry)) id) ⌝ }
 {
@@ -54,9 +56,15 @@ fn members_of(s: &[u8], places: &[usize; 44], id: u32) -> Members
 }
 
 // The ranges of a group's fields; `right`: its member list is right for its count.
-fn group_allowed(ports: u32, s: &[u8], places: &[usize; 44], id: u32, right: bool) -> bool
+fn group_allowed(
+    terms: Terms,
+    s: &[u8],
+    places: &[usize; FIELD_TYPES],
+    id: u32,
+    right: bool,
+) -> bool
     requires { ⌜ Indexed (now s) (now places) ⌝ }
-    ensures { λ r. ⌜ ((c : Collected) → right ≡ membersRight (value (now (s .entry)) 12) c → r ≡ groupAllowed ports (now (s .entry)) id c) ⌝ }
+    ensures { λ r. ⌜ ((c : Collected) → right ≡ membersRight (value (now (s .entry)) 12) c → r ≡ groupAllowed terms (now (s .entry)) id c) ⌝ }
 {
     if group_id::type_of(id) != 0 {
         return group_id::allowed(id) & right;
@@ -64,7 +72,7 @@ fn group_allowed(ports: u32, s: &[u8], places: &[usize; 44], id: u32, right: boo
     let port = fields::value(s, places, fields::OUT_PPORT);
     group_id::allowed(id)
         & ((port == group_id::low_of(id) as u64)
-            & (port <= ports as u64)
+            & (port <= terms.ports as u64)
             & (fields::value(s, places, fields::POP_VLAN) <= 1))
 }
 
@@ -89,14 +97,14 @@ fn group_command(add: bool, g: Group) -> Command
 }
 
 // Group add and mod.
-pub fn group_in(ports: u32, s: &[u8], places: &[usize; 44], add: bool) -> Decoding
+pub fn group_in(terms: Terms, s: &[u8], places: &[usize; FIELD_TYPES], add: bool) -> Decoding
     requires { ⌜ Indexed (now s) (now places) ⌝ }
-    ensures { λ r. ⌜ r ≡ groupIn ports (now (s .entry)) (choose add GroupAdd GroupMod) ⌝ }
+    ensures { λ r. ⌜ r ≡ groupIn terms (now (s .entry)) (choose add GroupAdd GroupMod) ⌝ }
 {
     let id = super::word(s, places, fields::GROUP_ID);
     let m = members_of(s, places, id);
     if !(fields::fields_right(s, places, group_user(id))
-        & group_allowed(ports, s, places, id, m.right)) {
+        & group_allowed(terms, s, places, id, m.right)) {
         return super::refused(Status::Einval);
     }
     let lows = m.lows;
@@ -104,7 +112,7 @@ pub fn group_in(ports: u32, s: &[u8], places: &[usize; 44], add: bool) -> Decodi
 }
 
 // Group del.
-pub fn group_key_in(s: &[u8], places: &[usize; 44]) -> Decoding
+pub fn group_key_in(s: &[u8], places: &[usize; FIELD_TYPES]) -> Decoding
     requires { ⌜ Indexed (now s) (now places) ⌝ }
     ensures { λ r. ⌜ r ≡ groupKeyIn (now (s .entry)) ⌝ }
 {
@@ -112,5 +120,5 @@ pub fn group_key_in(s: &[u8], places: &[usize; 44]) -> Decoding
     if !(fields::fields_right(s, places, fields::GROUP_DEL) & group_id::allowed(id)) {
         return super::refused(Status::Einval);
     }
-    super::carried(Command::GroupDel(id), [0; 62])
+    super::carried(Command::GroupDel(id), [0; MAX_MEMBERS])
 }

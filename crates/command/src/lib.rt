@@ -6,11 +6,14 @@ ghost use Rattle.rules.specs.Fields.{ruleOf, value};
 ghost use Rattle.rules.specs.Members.{pad};
 ghost use Rattle.rules.specs.Decode.{refused as Decode·refused, carried as Decode·carried, isCommand, commandIn, decode as Decode·decode};
 ghost use Rattle.tlv.specs.Index.{Indexed};
-use fields::found;
+ghost use Rattle.rules.specs.Limits.{fieldTypes};
 use rules::Command;
 use rules::Decoded;
 use rules::Decoding;
+use rules::FIELD_TYPES;
+use rules::MAX_MEMBERS;
 use rules::Status;
+use rules::Terms;
 
 mod flow;
 mod group;
@@ -38,12 +41,12 @@ fn refused(e: Status) -> Decoding
 {
     Decoding {
         what: Decoded::Refused(e),
-        members: [0; 62],
+        members: [0; MAX_MEMBERS],
     }
 }
 
 // A command, with the low bits of its group's members at the front of `lows`.
-fn carried(command: Command, lows: [u16; 62]) -> Decoding
+fn carried(command: Command, lows: [u16; MAX_MEMBERS]) -> Decoding
     ensures { λ r. ⌜ ((l : List ℕ) → lows ≡ pad l → r ≡ Decode·carried command l) ⌝ }
 {
     Decoding {
@@ -53,8 +56,8 @@ fn carried(command: Command, lows: [u16; 62]) -> Decoding
 }
 
 // The number of a field that has four bytes at most.
-fn word(s: &[u8], places: &[usize; 44], t: u32) -> u32
-    requires { ⌜ (Indexed (now s) (now places)) × (t < 44) × (ruleOf t .width ≤ 4) ⌝ }
+fn word(s: &[u8], places: &[usize; FIELD_TYPES], t: u32) -> u32
+    requires { ⌜ (Indexed (now s) (now places)) × (t < fieldTypes) × (ruleOf t .width ≤ 4) ⌝ }
     ensures { λ r. ⌜ r ≡ value (now (s .entry)) t ⌝ }
 {
     fields::value(s, places, t) as u32
@@ -72,28 +75,28 @@ fn is_command(c: u64) -> bool
 }
 
 // A command in CMD_INFO, by its CMD_TYPE.
-fn command_in(ports: u32, c: u64, s: &[u8], places: &[usize; 44]) -> Decoding
+fn command_in(terms: Terms, c: u64, s: &[u8], places: &[usize; FIELD_TYPES]) -> Decoding
     requires { ⌜ Indexed (now s) (now places) ⌝ }
-    ensures { λ r. ⌜ r ≡ commandIn ports c (now (s .entry)) ⌝ }
+    ensures { λ r. ⌜ r ≡ commandIn terms c (now (s .entry)) ⌝ }
 {
     if c == FLOW_ADD {
-        flow::flow_in(ports, s, places, true)
+        flow::flow_in(terms, s, places, true)
     } else if c == FLOW_MOD {
-        flow::flow_in(ports, s, places, false)
+        flow::flow_in(terms, s, places, false)
     } else if c == FLOW_DEL {
         flow::flow_key_in(s, places)
     } else if c == GROUP_ADD {
-        group::group_in(ports, s, places, true)
+        group::group_in(terms, s, places, true)
     } else if c == GROUP_MOD {
-        group::group_in(ports, s, places, false)
+        group::group_in(terms, s, places, false)
     } else {
         group::group_key_in(s, places)
     }
 }
 
-// A payload, on a device with so many ports.
-pub fn decode(payload: &[u8], ports: u32) -> Decoding
-    ensures { λ r. ⌜ r ≡ Decode·decode ports (now (payload .entry)) ⌝ }
+// A payload, under the terms of a device or a journal.
+pub fn decode(payload: &[u8], terms: Terms) -> Decoding
+    ensures { λ r. ⌜ r ≡ Decode·decode terms (now (payload .entry)) ⌝ }
 {
     let top = tlv::index_of(payload);
     let kind = found::found(payload, &top.places, CMD_TYPE, 2);
@@ -110,5 +113,5 @@ pub fn decode(payload: &[u8], ports: u32) -> Decoding
     if !index.whole {
         return refused(Status::Einval);
     }
-    command_in(ports, c, nest, &index.places)
+    command_in(terms, c, nest, &index.places)
 }

@@ -1,5 +1,6 @@
 // The flow that decides in each table, and a frame's way through the tables, over lent rows.
 use rules::FlowEntry;
+use rules::FlowRows;
 ghost use Prim.Native.Nat.{_<_, _≤_};
 ghost use mathlib.Core.Path.{_≡_};
 ghost use mathlib.Core.Bool.{false, not, _||_};
@@ -8,6 +9,7 @@ ghost use Rattle.rules.specs.Choose.{choose};
 ghost use Rattle.rules.specs.Frame.{beats as Frame·beats};
 ghost use Rattle.rules.specs.Tables.{liveFlows};
 ghost use Rattle.deciding.specs.Way.{flowAt, matchesIn, isTaken, Betters, Skips, Decides, wayFrom, exitIn};
+ghost use Rattle.rules.specs.Limits.{maxFlows};
 
 // How a frame leaves the tables: its VLAN and the group that is named, where it does.
 pub struct WayOut {
@@ -29,16 +31,16 @@ struct Hits {
 }
 
 // The flow in a place. Each reading of it loads what is used of it, so a test on one field stands before the next reading.
-fn flow(rows: &[[u32; 16]; 256], i: usize) -> FlowEntry
-    requires { ⌜ i < 256 ⌝ }
+fn flow(rows: &FlowRows, i: usize) -> FlowEntry
+    requires { ⌜ i < maxFlows ⌝ }
     ensures { λ r. ⌜ r ≡ flowAt (now (rows .entry)) i ⌝ }
 {
     rows::entry_of(rows[i])
 }
 
 // Whether a flow is for a MAC: that one is given is read only of flows with another one.
-fn is_for(rows: &[[u32; 16]; 256], i: usize, mac: u64) -> bool
-    requires { ⌜ i < 256 ⌝ }
+fn is_for(rows: &FlowRows, i: usize, mac: u64) -> bool
+    requires { ⌜ i < maxFlows ⌝ }
     ensures { λ r. ⌜ r ≡ not (flowAt (now (rows .entry)) i .«has_mac») || eqb (flowAt (now (rows .entry)) i .«dst_mac») mac ⌝ }
 {
     let e = flow(rows, i);
@@ -51,8 +53,8 @@ fn is_for(rows: &[[u32; 16]; 256], i: usize, mac: u64) -> bool
 
 // Whether the flow in a place is of a table and has what the table compares: 0 port and IN_PPORT under the mask, 10 port and VLAN,
 // 50 VLAN and, where given, DST_MAC. What tells most flows apart is read first, and the rest behind its test.
-fn matches(rows: &[[u32; 16]; 256], i: usize, table: u16, port: u32, vlan: u16, mac: u64) -> bool
-    requires { ⌜ i < 256 ⌝ }
+fn matches(rows: &FlowRows, i: usize, table: u16, port: u32, vlan: u16, mac: u64) -> bool
+    requires { ⌜ i < maxFlows ⌝ }
     ensures { λ r. ⌜ r ≡ matchesIn table port vlan mac (flowAt (now (rows .entry)) i) ⌝ }
 {
     let of = flow(rows, i);
@@ -92,16 +94,8 @@ fn is_taken(found: bool, e: FlowEntry, b: FlowEntry) -> bool
 }
 
 // The better of the flow in a place and the best so far, in a table.
-fn better(
-    rows: &[[u32; 16]; 256],
-    hit: Hit,
-    i: usize,
-    table: u16,
-    port: u32,
-    vlan: u16,
-    mac: u64,
-) -> Hit
-    requires { ⌜ (i < 256) × (hit .at < 256) ⌝ }
+fn better(rows: &FlowRows, hit: Hit, i: usize, table: u16, port: u32, vlan: u16, mac: u64) -> Hit
+    requires { ⌜ (i < maxFlows) × (hit .at < maxFlows) ⌝ }
     ensures { λ r. ⌜ Betters (now (rows .entry)) table port vlan mac i (hit .found) (hit .at) (r .found) (r .at) ⌝ }
 {
     if matches(rows, i, table, port, vlan, mac) {
@@ -124,11 +118,11 @@ fn none() -> Hit
 }
 
 // What decides in tables 0 and 10. One test passes over the flows of table 50, which are most of them in a bridge.
-fn first_hits(rows: &[[u32; 16]; 256], count: usize, port: u32, vlan: u16) -> Hits
+fn first_hits(rows: &FlowRows, count: usize, port: u32, vlan: u16) -> Hits
     ensures { λ r. ⌜ Decides count (now (rows .entry)) 0 port vlan 0 (r .first .found) (r .first .at) × Decides count (now (rows .entry)) 10 port vlan 0 (r .second .found) (r .second .at) ⌝ }
 {
     let all = &rows[..];
-    let mut i = wire::least(count, all.len());
+    let mut i = numbers::min(count, all.len());
     let mut first = none();
     let mut second = none();
     while 0 < i {
@@ -143,8 +137,8 @@ fn first_hits(rows: &[[u32; 16]; 256], count: usize, port: u32, vlan: u16) -> Hi
 }
 
 // Past the flows of table 50 that do not match, to behind the next one that does. This loop carries nothing but the place.
-fn skip(rows: &[[u32; 16]; 256], from: usize, vlan: u16, mac: u64) -> usize
-    requires { ⌜ from ≤ 256 ⌝ }
+fn skip(rows: &FlowRows, from: usize, vlan: u16, mac: u64) -> usize
+    requires { ⌜ from ≤ maxFlows ⌝ }
     ensures { λ r. ⌜ Skips (now (rows .entry)) 50 0 vlan mac from r ⌝ }
 {
     let mut i = from;
@@ -158,11 +152,11 @@ fn skip(rows: &[[u32; 16]; 256], from: usize, vlan: u16, mac: u64) -> usize
 }
 
 // What decides in table 50.
-fn last_hit(rows: &[[u32; 16]; 256], count: usize, vlan: u16, mac: u64) -> Hit
+fn last_hit(rows: &FlowRows, count: usize, vlan: u16, mac: u64) -> Hit
     ensures { λ r. ⌜ Decides count (now (rows .entry)) 50 0 vlan mac (r .found) (r .at) ⌝ }
 {
     let all = &rows[..];
-    let mut i = wire::least(count, all.len());
+    let mut i = numbers::min(count, all.len());
     let mut hit = none();
     loop {
         i = skip(rows, i, vlan, mac);
@@ -192,7 +186,7 @@ fn vlan_after(vlan: u16, new_vlan_id: u16) -> u16
 }
 
 // The way through tables 0, 10 and 50; 20 and 60 are empty. GOTO_TBL 0 drops, and so does a miss, but in table 0.
-pub fn way(rows: &[[u32; 16]; 256], count: usize, port: u32, vlan: u16, mac: u64) -> WayOut
+pub fn way(rows: &FlowRows, count: usize, port: u32, vlan: u16, mac: u64) -> WayOut
     ensures { λ r. ⌜ exitIn r ≡ wayFrom (liveFlows count (now (rows .entry))) port mac vlan ⌝ }
 {
     let found = first_hits(rows, count, port, vlan);

@@ -47,7 +47,7 @@ module _ (d : Registers) (t : Tables) (port : ℕ) (f before : List ℕ) where
         unfolding number
         done l = record { answer = sym accepted; count = rw accepted (l .count); list = rw accepted (l .list) }
 
-        -- "An ingress port that is down or not enabled gives no copies."
+        -- an ingress port that is "down or not enabled": no outputs
         pub port-down : isUp d port ≡ false → Outcome d t port f before (record { answer = Done; outputs = 0 }) before
         unfolding outputs
         port-down u = done (simp u (lists-none before))

@@ -1,6 +1,10 @@
 // The frame call. It has no `requires`: whatever the registers and tables hold, it gives exactly what the rules say.
 use rules::Answer;
 use rules::Counts;
+use rules::FlowRows;
+use rules::GroupHeads;
+use rules::GroupMembers;
+use rules::LIST_NUMBERS;
 use rules::Registers;
 ghost use Prim.Native.Nat.{_≤_};
 ghost use mathlib.Core.Path.{_≡_};
@@ -10,6 +14,7 @@ ghost use Rattle.rules.specs.Tables.{liveFlows, liveGroups, arrays, tablesOf};
 ghost use Rattle.rules.specs.Frame.{isTagged, isFrame, frameVlan, way, keep, exitOutputs};
 ghost use Rattle.outputs.specs.Outputs.{Lists};
 ghost use Rattle.egress.specs.Outcome.{Outcome};
+ghost use Rattle.rules.specs.Limits.{listNumbers};
 
 // What a frame call gives: the answer, and how many outputs (document 01: copies) stand at the start of the list.
 pub struct Framed {
@@ -56,14 +61,14 @@ fn frame_vlan(f: &[u8]) -> u16
 fn outputs_from(
     d: Registers,
     counts: Counts,
-    flows: &[[u32; 16]; 256],
-    heads: &[[u32; 3]; 128],
-    members: &[[u16; 62]; 128],
+    flows: &FlowRows,
+    heads: &GroupHeads,
+    members: &GroupMembers,
     port: u32,
     f: &[u8],
     list: &mut [u16],
 ) -> usize
-    requires { ⌜ 186 ≤ length (now list) ⌝ }
+    requires { ⌜ listNumbers ≤ length (now list) ⌝ }
     ensures { λ r. ⌜ Lists (keep d port (exitOutputs (liveGroups (counts .groups) (now (heads .entry)) (now (members .entry))) (way (liveFlows (counts .flows) (now (flows .entry))) port (now (f .entry))))) r (now (list .entry)) (now (list .exit)) ⌝ }
 {
     let w = deciding::way(flows, counts.flows, port, frame_vlan(f), wire::le48(f, 0));
@@ -92,25 +97,25 @@ fn answered(answer: Answer, outputs: usize) -> Framed
 pub fn frame(
     d: Registers,
     counts: Counts,
-    flows: &[[u32; 16]; 256],
-    heads: &[[u32; 3]; 128],
-    members: &[[u16; 62]; 128],
+    flows: &FlowRows,
+    heads: &GroupHeads,
+    members: &GroupMembers,
     port: u64,
     f: &[u8],
     list: &mut [u16],
 ) -> Framed
     ensures { λ r. ⌜ Outcome d (tablesOf counts (arrays (now (flows .entry)) (now (heads .entry)) (now (members .entry)))) port (now (f .entry)) (now (list .entry)) r (now (list .exit)) ⌝ }
 {
-    if !registers::port_allowed(d, port) {
+    if !ports::port_allowed(d, port) {
         return answered(Answer::PortNotAllowed, 0);
     }
     if !is_frame(f) {
         return answered(Answer::NotAFrame, 0);
     }
-    if list.len() < 186 {
+    if list.len() < LIST_NUMBERS {
         return answered(Answer::ListShort, 0);
     }
-    if !registers::is_up(d, port) {
+    if !ports::is_up(d, port) {
         return answered(Answer::Done, 0);
     }
     let n = outputs_from(d, counts, flows, heads, members, port as u32, f, list);

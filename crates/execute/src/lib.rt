@@ -5,15 +5,19 @@ use rules::Decoded;
 use rules::Decoding;
 use rules::Flow;
 use rules::FlowEntry;
+use rules::FlowRows;
 use rules::Group;
 use rules::GroupEntry;
+use rules::GroupHeads;
+use rules::GroupMembers;
+use rules::MAX_MEMBERS;
 use rules::Match;
 use rules::Status;
 use tables::Counted;
 ghost use mathlib.Core.Path.{_≡_};
-ghost use Rattle.rules.specs.Tables.{arrays, tablesOf, flowEntry, groupEntry, commandStatus, commandEffect, executed, carryOut};
+ghost use Rattle.rules.specs.Tables.{arrays, tablesOf, storedFlow, flowEntry, groupEntry, commandStatus, commandEffect, executed, carryOut};
 ghost use Rattle.execute.specs.Outcome.{Executes};
-ghost use Rattle.execute.specs.Entries.{commonEntry};
+ghost use Rattle.rules.specs.declared.Match.the-variants.{IngressPort};
 
 // A payload's status, and how many places of each table are live after it.
 pub struct Executed {
@@ -21,9 +25,9 @@ pub struct Executed {
     pub counts: Counts,
 }
 
-// A stored flow with the fields that every table has, the others 0.
+// A stored flow with the fields that every table has, the others 0: table 0's with none of its own.
 fn common_entry(f: Flow) -> FlowEntry
-    ensures { λ r. ⌜ r ≡ commonEntry f ⌝ }
+    ensures { λ r. ⌜ r ≡ storedFlow f (IngressPort 0 0) ⌝ }
 {
     FlowEntry {
         cookie: f.cookie,
@@ -87,7 +91,7 @@ fn flow_entry(f: Flow) -> FlowEntry
     }
 }
 
-fn group_entry(g: Group, members: [u16; 62]) -> GroupEntry
+fn group_entry(g: Group, members: [u16; MAX_MEMBERS]) -> GroupEntry
     ensures { λ r. ⌜ r ≡ groupEntry g members ⌝ }
 {
     GroupEntry {
@@ -129,11 +133,11 @@ fn of_groups(r: Counted, counts: Counts) -> Executed
 // A command, on the one table that it is about.
 fn command(
     c: Command,
-    m: [u16; 62],
+    m: [u16; MAX_MEMBERS],
     counts: Counts,
-    flows: &mut [[u32; 16]; 256],
-    heads: &mut [[u32; 3]; 128],
-    members: &mut [[u16; 62]; 128],
+    flows: &mut FlowRows,
+    heads: &mut GroupHeads,
+    members: &mut GroupMembers,
 ) -> Executed
     ensures { λ r. ⌜ Executes r counts (arrays (now (flows .entry)) (now (heads .entry)) (now (members .entry))) (arrays (now (flows .exit)) (now (heads .exit)) (now (members .exit))) (executed (tablesOf counts (arrays (now (flows .entry)) (now (heads .entry)) (now (members .entry)))) (commandStatus (tablesOf counts (arrays (now (flows .entry)) (now (heads .entry)) (now (members .entry)))) c) (commandEffect (tablesOf counts (arrays (now (flows .entry)) (now (heads .entry)) (now (members .entry)))) c m)) ⌝ }
 {
@@ -169,9 +173,9 @@ fn command(
 pub fn execute(
     d: Decoding,
     counts: Counts,
-    flows: &mut [[u32; 16]; 256],
-    heads: &mut [[u32; 3]; 128],
-    members: &mut [[u16; 62]; 128],
+    flows: &mut FlowRows,
+    heads: &mut GroupHeads,
+    members: &mut GroupMembers,
 ) -> Executed
     ensures { λ r. ⌜ Executes r counts (arrays (now (flows .entry)) (now (heads .entry)) (now (members .entry))) (arrays (now (flows .exit)) (now (heads .exit)) (now (members .exit))) (carryOut (tablesOf counts (arrays (now (flows .entry)) (now (heads .entry)) (now (members .entry)))) d) ⌝ }
 {

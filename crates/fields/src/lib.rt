@@ -5,10 +5,10 @@ ghost use lib.ListN.{getD};
 ghost use Rattle.rules.specs.declared.FieldRule.{FieldRule};
 ghost use Rattle.rules.specs.Fields.{ruleOf, field as Fields·field, given as Fields·given, value as Fields·value, right as Fields·right, hasUser, fieldRight, fieldsRight};
 ghost use Rattle.tlv.specs.Index.{Indexed};
+ghost use Rattle.rules.specs.Limits.{fieldTypes};
+use rules::FIELD_TYPES;
 use rules::FieldRule;
 use rules::Found;
-
-pub mod found;
 
 // The types of the fields.
 pub const TBL: u32 = 1;
@@ -266,8 +266,8 @@ pub fn rule_of(t: u32) -> FieldRule
 }
 
 // What the region holds of a field, at the width of its row.
-pub fn field(s: &[u8], places: &[usize; 44], t: u32) -> Found
-    requires { ⌜ (Indexed (now s) (now places)) × (t < 44) ⌝ }
+pub fn field(s: &[u8], places: &[usize; FIELD_TYPES], t: u32) -> Found
+    requires { ⌜ (Indexed (now s) (now places)) × (t < fieldTypes) ⌝ }
     ensures { λ r. ⌜ r ≡ Fields·field (now (s .entry)) t ⌝ }
 {
     let rule = rule_of(t);
@@ -275,16 +275,16 @@ pub fn field(s: &[u8], places: &[usize; 44], t: u32) -> Found
 }
 
 // The field stands there once, at its width.
-pub fn given(s: &[u8], places: &[usize; 44], t: u32) -> bool
-    requires { ⌜ (Indexed (now s) (now places)) × (t < 44) ⌝ }
+pub fn given(s: &[u8], places: &[usize; FIELD_TYPES], t: u32) -> bool
+    requires { ⌜ (Indexed (now s) (now places)) × (t < fieldTypes) ⌝ }
     ensures { λ r. ⌜ r ≡ Fields·given (now (s .entry)) t ⌝ }
 {
     found::is_at(field(s, places, t))
 }
 
 // Its number, 0 where it is not given.
-pub fn value(s: &[u8], places: &[usize; 44], t: u32) -> u64
-    requires { ⌜ (Indexed (now s) (now places)) × (t < 44) ⌝ }
+pub fn value(s: &[u8], places: &[usize; FIELD_TYPES], t: u32) -> u64
+    requires { ⌜ (Indexed (now s) (now places)) × (t < fieldTypes) ⌝ }
     ensures { λ r. ⌜ r ≡ Fields·value (now (s .entry)) t ⌝ }
 {
     let rule = rule_of(t);
@@ -308,8 +308,8 @@ fn has_user(set: u8, who: u8) -> bool
 }
 
 // A field that is used is right; one that is not used is skipped.
-fn field_right(s: &[u8], places: &[usize; 44], who: u8, t: u32, rule: FieldRule) -> bool
-    requires { ⌜ (Indexed (now s) (now places)) × (t < 44) × (rule ≡ ruleOf t) ⌝ }
+fn field_right(s: &[u8], places: &[usize; FIELD_TYPES], who: u8, t: u32, rule: FieldRule) -> bool
+    requires { ⌜ (Indexed (now s) (now places)) × (t < fieldTypes) × (rule ≡ ruleOf t) ⌝ }
     ensures { λ r. ⌜ r ≡ fieldRight (now (s .entry)) who t ⌝ }
 {
     if !has_user(rule.uses, who) {
@@ -322,12 +322,12 @@ fn field_right(s: &[u8], places: &[usize; 44], who: u8, t: u32, rule: FieldRule)
 }
 
 // No field is missing, repeated or of another width for who reads the region. No type past POP_VLAN is listed.
-pub fn fields_right(s: &[u8], places: &[usize; 44], who: u8) -> bool
+pub fn fields_right(s: &[u8], places: &[usize; FIELD_TYPES], who: u8) -> bool
     requires { ⌜ Indexed (now s) (now places) ⌝ }
     ensures { λ r. ⌜ r ≡ fieldsRight (now (s .entry)) who ⌝ }
 {
     let rules = table();
-    let mut t: u32 = 44;
+    let mut t = FIELD_TYPES as u32;
     while 0 < t {
         t -= 1;
         let rule = rules[t as usize];

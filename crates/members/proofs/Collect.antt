@@ -1,4 +1,5 @@
--- Members collected, a TLV at a time, into the front of 62 numbers.
+-- Members collected, a TLV at a time, into the front of 62 numbers. The loop stands where its members so far leave the rules'
+-- collection, or past a TLV that is none, and then nobody is collected (`Standing`).
 -- Assumes nothing.
 use Prim.Native.Nat.{ℕ, suc, _+_, _-_, _≤_, _<_}
 use mathlib.Core.Path.{_≡_, refl, ap, sym, subst, _∙_}
@@ -9,12 +10,12 @@ use native.Mathlib.Numerals.{add-one}
 use lib.ListN.{length, length-append, length-set, getD, take, drop, set, replicate, drop-of-length-le}
 use lib.Seq.{drop-cons, set-at, take-suc-set, length-take-le}
 use lib.Dec.{T as Holds, eqb, leb, ltb}
-use borrow.Author.Tests.{ne-eqb, ltb-true, ltb-false, lt-leb, le-leb, lt-ltb, le-ltb}
+use borrow.Author.Tests.{ne-eqb, ltb-true, ltb-false, lt-leb, le-leb}
 use Rattle.rules.specs.Choose.{choose}
 use Rattle.rules.specs.Bytes.{leAt}
 use Rattle.rules.specs.Region.{tlvEnd, stepAt, after, tlvs, wellFormed}
 use Rattle.rules.specs.Fields.{ruleOf}
-use Rattle.rules.specs.GroupId.{groupType, groupVlan, groupLow}
+use Rattle.rules.specs.GroupId.{groupType, groupVlan}
 use Rattle.rules.specs.Members.{Collected, elem, memberRight, membersRight, collect, membersIn, pad}
 use Rattle.rules.specs.declared.Tlv.{Tlv}
 use Rattle.rules.specs.declared.Step.{Step}

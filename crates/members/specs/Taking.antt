@@ -1,10 +1,11 @@
 -- What a step does to the members before it.
 use Prim.Native.Nat.{ℕ, _+_}
-use mathlib.Core.Bool.{Bool, true, false, _&&_}
+use mathlib.Core.Bool.{Bool, false, _&&_}
 use mathlib.Core.List.{List}
 use lib.ListN.{take, set, replicate}
 use lib.Dec.{leb, eqb}
 use Rattle.rules.specs.Choose.{choose}
+use Rattle.rules.specs.Limits.{maxPorts}
 use Rattle.rules.specs.Bytes.{leAt}
 use Rattle.rules.specs.GroupId.{groupLow}
 use Rattle.rules.specs.Members.{elem, memberRight}
@@ -35,5 +36,5 @@ stored s vlan lows n Fault = lows
 -- what is read of a list that stops at a step
 unfoldable pub endedAt : Step → List ℕ → ℕ → ℕ → Members
 endedAt step lows n count =
-    choose (isEnd step && leb n 62) (record { right = leb 1 count && leb count 62 && eqb n count; lows = lows })
-    (record { right = false; lows = replicate 62 0 })
+    choose (isEnd step && leb n maxPorts) (record { right = leb 1 count && leb count maxPorts && eqb n count; lows = lows })
+    (record { right = false; lows = replicate maxPorts 0 })

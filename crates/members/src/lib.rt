@@ -9,6 +9,8 @@ ghost use Rattle.tlv.specs.Index.{stops};
 ghost use Rattle.rules.specs.Members.{elem, memberRight, membersIn};
 ghost use Rattle.members.specs.Listed.{listed};
 ghost use Rattle.members.specs.Taking.{counted, stored, endedAt};
+ghost use Rattle.rules.specs.Limits.{maxPorts};
+use rules::MAX_MEMBERS;
 use rules::Step;
 use rules::Tlv;
 use tlv::reader;
@@ -16,7 +18,7 @@ use tlv::reader;
 // Whether a member list is right for its count, and the members' low bits, those past the last 0.
 pub struct Members {
     pub right: bool,
-    pub lows: [u16; 62],
+    pub lows: [u16; MAX_MEMBERS],
 }
 
 // No members, which is right for no count.
@@ -25,13 +27,13 @@ pub fn none() -> Members
 {
     Members {
         right: false,
-        lows: [0; 62],
+        lows: [0; MAX_MEMBERS],
     }
 }
 
 // The first n numbers have this one among them. All are compared: a search that stops early takes twice as long on lists that are right.
-fn contains(lows: &[u16; 62], n: usize, low: u16) -> bool
-    requires { ⌜ n ≤ 62 ⌝ }
+fn contains(lows: &[u16; MAX_MEMBERS], n: usize, low: u16) -> bool
+    requires { ⌜ n ≤ maxPorts ⌝ }
     ensures { λ r. ⌜ r ≡ elem low (take n (now (lows .entry))) ⌝ }
 {
     let all = &lows[..];
@@ -49,7 +51,7 @@ fn contains(lows: &[u16; 62], n: usize, low: u16) -> bool
 fn member_right(vlan: u16, n: usize, x: Tlv, id: u32, there: bool) -> bool
     ensures { λ r. ⌜ r ≡ memberRight vlan n x id there ⌝ }
 {
-    if 62 <= n {
+    if MAX_MEMBERS <= n {
         return false;
     }
     let kind = n as u32 + 1;
@@ -62,12 +64,12 @@ fn member_right(vlan: u16, n: usize, x: Tlv, id: u32, there: bool) -> bool
 }
 
 // A step after n members: it adds its low bits to them, and their number after it is given, 63 where it is no member of the group.
-fn add(s: &[u8], vlan: u16, lows: &mut [u16; 62], n: usize, step: Step) -> usize
+fn add(s: &[u8], vlan: u16, lows: &mut [u16; MAX_MEMBERS], n: usize, step: Step) -> usize
     ensures { λ r. ⌜ (r ≡ counted (now (s .entry)) vlan (now (lows .entry)) n step) × (now (lows .exit) ≡ stored (now (s .entry)) vlan (now (lows .entry)) n step) ⌝ }
 {
     match step {
         Step::Next(x) => {
-            if 62 <= n {
+            if MAX_MEMBERS <= n {
                 return 63;
             }
             let id = wire::le32(s, x.start);
@@ -84,10 +86,10 @@ fn add(s: &[u8], vlan: u16, lows: &mut [u16; 62], n: usize, step: Step) -> usize
 }
 
 // What is read of a list that stops at a step after n members, compared with GROUP_COUNT.
-fn ended(step: Step, lows: [u16; 62], n: usize, count: u64) -> Members
+fn ended(step: Step, lows: [u16; MAX_MEMBERS], n: usize, count: u64) -> Members
     ensures { λ r. ⌜ r ≡ endedAt step lows n count ⌝ }
 {
-    if tlv::is_end(step) & (n <= 62) {
+    if tlv::is_end(step) & (n <= MAX_MEMBERS) {
         Members {
             right: (1 <= count) & (count <= 62) & (n as u64 == count),
             lows: lows,
@@ -99,9 +101,9 @@ fn ended(step: Step, lows: [u16; 62], n: usize, count: u64) -> Members
 
 // The list stops where the region does, or after a TLV that is no member.
 fn halts(step: Step, n: usize) -> bool
-    ensures { λ r. ⌜ r ≡ (stops step || ltb 62 n) ⌝ }
+    ensures { λ r. ⌜ r ≡ (stops step || ltb maxPorts n) ⌝ }
 {
-    tlv::stops(step) | (62 < n)
+    tlv::stops(step) | (MAX_MEMBERS < n)
 }
 
 // The members in a region, compared with GROUP_COUNT. One reader goes over the region, and is kept in a local over the loop.
@@ -109,7 +111,7 @@ pub fn read(s: &[u8], vlan: u16, count: u64) -> Members
     ensures { λ r. ⌜ r ≡ listed count (membersIn (now (s .entry)) vlan) ⌝ }
 {
     let mut r = reader::new(s, 0);
-    let mut lows = [0u16; 62];
+    let mut lows = [0u16; MAX_MEMBERS];
     let mut n = 0;
     loop {
         let step = reader::next(r);

@@ -1,4 +1,8 @@
 // A group's outputs (document 01: copies), resolved and written into a list.
+use rules::GroupHeads;
+use rules::GroupMembers;
+use rules::LIST_NUMBERS;
+use rules::MAX_MEMBERS;
 use rules::Registers;
 ghost use Prim.Native.Nat.{_+_, _*_, _<_, _≤_};
 ghost use mathlib.Core.Path.{_≡_};
@@ -13,11 +17,12 @@ ghost use Rattle.rules.specs.Registers.{isUp};
 ghost use Rattle.rules.specs.Tables.{liveGroups, idOf};
 ghost use Rattle.rules.specs.Frame.{keep, foundOutputs};
 ghost use Rattle.outputs.specs.Outputs.{Passed, Sought, membersFound, membersOf, lowsIn, withOutput, withRoom, Sends, Lists, Resolves};
+ghost use Rattle.rules.specs.Limits.{listNumbers};
 
 // The low 16 bits of some groups of type 0, in order.
 pub struct Members {
     pub count: usize,
-    pub lows: [u16; 62],
+    pub lows: [u16; MAX_MEMBERS],
 }
 
 // Where the search for an ID ended, and whether the ID stands there.
@@ -42,7 +47,7 @@ fn member_id(vlan: u16, low: u16) -> u32
 fn is_kept(d: Registers, ingress: u64, port: u64) -> bool
     ensures { λ r. ⌜ r ≡ not (eqb port ingress) && (eqb port 0 || isUp d port) ⌝ }
 {
-    (port != ingress) & ((port == 0) | registers::is_up(d, port))
+    (port != ingress) & ((port == 0) | ports::is_up(d, port))
 }
 
 fn number(pop: bool) -> u16
@@ -88,17 +93,17 @@ fn no_members() -> Members
 {
     Members {
         count: 0,
-        lows: [0u16; 62],
+        lows: [0u16; MAX_MEMBERS],
     }
 }
 
 // The first live head from a place on whose ID is not lower. What stands before that place has to be lower.
-fn seek(heads: &[[u32; 3]; 128], count: usize, id: u32, from: usize) -> Place
+fn seek(heads: &GroupHeads, count: usize, id: u32, from: usize) -> Place
     requires { ⌜ Passed (now heads) id from ⌝ }
     ensures { λ r. ⌜ Sought count (now (heads .entry)) id (r .at) (r .held) ⌝ }
 {
     let all = &heads[..];
-    let n = wire::least(count, all.len());
+    let n = numbers::min(count, all.len());
     let mut at = from;
     while at < n {
         let k = heads[at][0];
@@ -111,7 +116,7 @@ fn seek(heads: &[[u32; 3]; 128], count: usize, id: u32, from: usize) -> Place
 }
 
 // Both arrays are lent as slices, which tells that they are as long as each other.
-fn members_in(heads: &[[u32; 3]; 128], members: &[[u16; 62]; 128], count: usize, id: u32) -> Members
+fn members_in(heads: &GroupHeads, members: &GroupMembers, count: usize, id: u32) -> Members
     ensures { λ r. ⌜ lowsIn r ≡ membersFound (find idOf id (liveGroups count (now (heads .entry)) (now (members .entry)))) ⌝ }
 {
     let all = &heads[..];
@@ -132,13 +137,13 @@ fn members_in(heads: &[[u32; 3]; 128], members: &[[u16; 62]; 128], count: usize,
 fn itself(low: u16) -> Members
     ensures { λ r. ⌜ lowsIn r ≡ low ∷ [] ⌝ }
 {
-    let mut lows = [0u16; 62];
+    let mut lows = [0u16; MAX_MEMBERS];
     lows[0] = low;
     Members { count: 1, lows }
 }
 
 // A group of type 0 stands for itself, so that one loop resolves every group.
-fn members_of(heads: &[[u32; 3]; 128], members: &[[u16; 62]; 128], count: usize, id: u32) -> Members
+fn members_of(heads: &GroupHeads, members: &GroupMembers, count: usize, id: u32) -> Members
     ensures { λ r. ⌜ lowsIn r ≡ membersOf (liveGroups count (now (heads .entry)) (now (members .entry))) id ⌝ }
 {
     let kind = group_id::type_of(id);
@@ -162,7 +167,7 @@ fn from(id: u32, last: u32, j: usize) -> usize
 // Writes the outputs of the members that exist, in order. Each search goes on where the last one ended.
 fn resolve(
     d: Registers,
-    heads: &[[u32; 3]; 128],
+    heads: &GroupHeads,
     count: usize,
     ingress: u64,
     vlan: u16,
@@ -170,10 +175,10 @@ fn resolve(
     m: Members,
     list: &mut [u16],
 ) -> usize
-    requires { ⌜ («group_vlan» < 4096) × (186 ≤ length (now list)) ⌝ }
+    requires { ⌜ («group_vlan» < 4096) × (listNumbers ≤ length (now list)) ⌝ }
     ensures { λ r. ⌜ Resolves d ingress count (now (heads .entry)) «group_vlan» vlan (lowsIn m) r (now (list .entry)) (now (list .exit)) ⌝ }
 {
-    let size = wire::least(m.count, 62);
+    let size = numbers::min(m.count, MAX_MEMBERS);
     let mut k: usize = 0;
     let mut out: usize = 0;
     let mut at: usize = 0;
@@ -196,8 +201,8 @@ fn resolve(
 // has none.
 pub fn group_outputs(
     d: Registers,
-    heads: &[[u32; 3]; 128],
-    members: &[[u16; 62]; 128],
+    heads: &GroupHeads,
+    members: &GroupMembers,
     count: usize,
     ingress: u64,
     vlan: u16,
@@ -208,7 +213,7 @@ pub fn group_outputs(
 {
     let all = &heads[..];
     let lows = &members[..];
-    if list.len() < 186 {
+    if list.len() < LIST_NUMBERS {
         return 0;
     }
     let m = members_of(heads, members, count, id);

@@ -2,6 +2,7 @@
 // packing is proved to be undone by unpacking. In words of 32 bits nearly every field is one word; cookie and MAC are two, the lower first.
 use rules::FlowEntry;
 use rules::GroupEntry;
+use rules::MAX_MEMBERS;
 ghost use mathlib.Core.Path.{_≡_};
 ghost use mathlib.Core.Bool.{not};
 ghost use Prim.Native.Nat.{_+_, _*_, _%_, _/_};
@@ -132,7 +133,7 @@ pub fn row_of(e: FlowEntry) -> [u32; 16]
 // ---- Groups
 
 // The group that a head and its members make.
-pub fn group_of(head: [u32; 3], members: [u16; 62]) -> GroupEntry
+pub fn group_of(head: [u32; 3], members: [u16; MAX_MEMBERS]) -> GroupEntry
     ensures { λ r. ⌜ r ≡ groupIn (head, members) ⌝ }
 {
     GroupEntry {

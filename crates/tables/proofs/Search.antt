@@ -1,4 +1,5 @@
--- A linear search over the live entries of an array, and what the change after it does to them.
+-- A linear search over the live entries of an array, and what the change after it does to them. The loop passes lower keys, so
+-- the position of a key is that among the rest, further on (`Searching`).
 -- Assumes nothing.
 use Prim.Native.Nat.{ℕ, suc, _+_, _-_, _<_, _≤_, min}
 use mathlib.Core.Bool.{Bool, true, false}

@@ -2,6 +2,8 @@
 use crate::Counted;
 use crate::Place;
 use rules::FlowEntry;
+use rules::FlowRows;
+use rules::MAX_FLOWS;
 use rules::Status;
 ghost use mathlib.Core.Path.{_≡_};
 ghost use lib.ListN.{length, take};
@@ -9,14 +11,15 @@ ghost use Rattle.rules.specs.Places.{places, live};
 ghost use Rattle.rules.specs.Rows.{cookieIn, entryIn};
 ghost use Rattle.rules.specs.Tables.{cookieOf};
 ghost use Rattle.tables.specs.Commands.{Sought, Added, Modded, Deleted};
+ghost use Rattle.rules.specs.Limits.{maxFlows};
 
 // The first of the live flows whose cookie is not lower, or behind the last. The length of a lent array is told where it is lent as a
 // slice, and nowhere else: `all` is there for that.
-pub(crate) fn flow_find(rows: &[[u32; 16]; 256], count: usize, key: u64) -> Place
-    ensures { λ r. ⌜ (length (now (rows .entry)) ≡ 256) × Sought cookieIn 256 key (r .live) (take count (now (rows .entry))) (r .at) (r .held) ⌝ }
+pub(crate) fn flow_find(rows: &FlowRows, count: usize, key: u64) -> Place
+    ensures { λ r. ⌜ (length (now (rows .entry)) ≡ maxFlows) × Sought cookieIn maxFlows key (r .live) (take count (now (rows .entry))) (r .at) (r .held) ⌝ }
 {
     let all = &rows[..];
-    let n = wire::least(count, all.len());
+    let n = numbers::min(count, all.len());
     let mut at: usize = 0;
     let mut held = false;
     while at < n {
@@ -35,8 +38,8 @@ pub(crate) fn flow_find(rows: &[[u32; 16]; 256], count: usize, key: u64) -> Plac
 }
 
 // The flow with this cookie replaced.
-pub fn flow_mod(rows: &mut [[u32; 16]; 256], count: usize, e: FlowEntry) -> Counted
-    ensures { λ r. ⌜ Modded (live entryIn) cookieOf 256 (places count (now (rows .entry))) e (r .status) (places (r .count) (now (rows .exit))) ⌝ }
+pub fn flow_mod(rows: &mut FlowRows, count: usize, e: FlowEntry) -> Counted
+    ensures { λ r. ⌜ Modded (live entryIn) cookieOf maxFlows (places count (now (rows .entry))) e (r .status) (places (r .count) (now (rows .exit))) ⌝ }
 {
     let p = flow_find(rows, count, e.cookie);
     let at = p.at;
@@ -54,8 +57,8 @@ pub fn flow_mod(rows: &mut [[u32; 16]; 256], count: usize, e: FlowEntry) -> Coun
 }
 
 // A flow put in before the first that has a higher cookie, those from there on moved up.
-pub fn flow_add(rows: &mut [[u32; 16]; 256], count: usize, e: FlowEntry) -> Counted
-    ensures { λ r. ⌜ Added (live entryIn) cookieOf 256 (places count (now (rows .entry))) e (r .status) (places (r .count) (now (rows .exit))) ⌝ }
+pub fn flow_add(rows: &mut FlowRows, count: usize, e: FlowEntry) -> Counted
+    ensures { λ r. ⌜ Added (live entryIn) cookieOf maxFlows (places count (now (rows .entry))) e (r .status) (places (r .count) (now (rows .exit))) ⌝ }
 {
     let p = flow_find(rows, count, e.cookie);
     let at = p.at;
@@ -66,7 +69,7 @@ pub fn flow_add(rows: &mut [[u32; 16]; 256], count: usize, e: FlowEntry) -> Coun
             count: count,
         };
     }
-    if 256 <= n {
+    if MAX_FLOWS <= n {
         return Counted {
             status: Status::Enomem,
             count: count,
@@ -87,8 +90,8 @@ pub fn flow_add(rows: &mut [[u32; 16]; 256], count: usize, e: FlowEntry) -> Coun
 }
 
 // The flow with a cookie taken out, those after it moved down.
-pub fn flow_del(rows: &mut [[u32; 16]; 256], count: usize, cookie: u64) -> Counted
-    ensures { λ r. ⌜ Deleted (live entryIn) cookieOf 256 (places count (now (rows .entry))) cookie (r .status) (places (r .count) (now (rows .exit))) ⌝ }
+pub fn flow_del(rows: &mut FlowRows, count: usize, cookie: u64) -> Counted
+    ensures { λ r. ⌜ Deleted (live entryIn) cookieOf maxFlows (places count (now (rows .entry))) cookie (r .status) (places (r .count) (now (rows .exit))) ⌝ }
 {
     let p = flow_find(rows, count, cookie);
     let n = p.live;

@@ -2,6 +2,9 @@
 use crate::Counted;
 use crate::Place;
 use rules::GroupEntry;
+use rules::GroupHeads;
+use rules::GroupMembers;
+use rules::MAX_GROUPS;
 use rules::Status;
 ghost use mathlib.Core.Path.{_≡_};
 ghost use lib.ListN.{length, take};
@@ -9,19 +12,20 @@ ghost use Rattle.rules.specs.Rows.{idIn};
 ghost use Rattle.rules.specs.Tables.{idOf};
 ghost use Rattle.tables.specs.Commands.{Sought, Added, Modded, Deleted};
 ghost use Rattle.tables.specs.Groups.{groupPlaces, groupsIn};
+ghost use Rattle.rules.specs.Limits.{maxGroups};
 
 // The first of the live groups whose ID is not lower, or behind the last. Only heads are read; both lengths are told.
 pub(crate) fn group_find(
-    heads: &[[u32; 3]; 128],
-    members: &[[u16; 62]; 128],
+    heads: &GroupHeads,
+    members: &GroupMembers,
     count: usize,
     key: u32,
 ) -> Place
-    ensures { λ r. ⌜ (length (now (heads .entry)) ≡ 128) × (length (now (members .entry)) ≡ 128) × Sought idIn 128 key (r .live) (take count (now (heads .entry))) (r .at) (r .held) ⌝ }
+    ensures { λ r. ⌜ (length (now (heads .entry)) ≡ maxGroups) × (length (now (members .entry)) ≡ maxGroups) × Sought idIn maxGroups key (r .live) (take count (now (heads .entry))) (r .at) (r .held) ⌝ }
 {
     let all = &heads[..];
     let beside_them = &members[..];
-    let n = wire::least(count, all.len());
+    let n = numbers::min(count, all.len());
     let mut at: usize = 0;
     let mut held = false;
     while at < n {
@@ -41,12 +45,12 @@ pub(crate) fn group_find(
 
 // The group with this ID replaced.
 pub fn group_mod(
-    heads: &mut [[u32; 3]; 128],
-    members: &mut [[u16; 62]; 128],
+    heads: &mut GroupHeads,
+    members: &mut GroupMembers,
     count: usize,
     g: GroupEntry,
 ) -> Counted
-    ensures { λ r. ⌜ Modded groupsIn idOf 128 (groupPlaces count (now (heads .entry)) (now (members .entry))) g (r .status) (groupPlaces (r .count) (now (heads .exit)) (now (members .exit))) ⌝ }
+    ensures { λ r. ⌜ Modded groupsIn idOf maxGroups (groupPlaces count (now (heads .entry)) (now (members .entry))) g (r .status) (groupPlaces (r .count) (now (heads .exit)) (now (members .exit))) ⌝ }
 {
     let p = group_find(heads, members, count, g.id);
     let at = p.at;
@@ -67,12 +71,12 @@ pub fn group_mod(
 
 // A group put in before the first that has a higher ID, those from there on moved up.
 pub fn group_add(
-    heads: &mut [[u32; 3]; 128],
-    members: &mut [[u16; 62]; 128],
+    heads: &mut GroupHeads,
+    members: &mut GroupMembers,
     count: usize,
     g: GroupEntry,
 ) -> Counted
-    ensures { λ r. ⌜ Added groupsIn idOf 128 (groupPlaces count (now (heads .entry)) (now (members .entry))) g (r .status) (groupPlaces (r .count) (now (heads .exit)) (now (members .exit))) ⌝ }
+    ensures { λ r. ⌜ Added groupsIn idOf maxGroups (groupPlaces count (now (heads .entry)) (now (members .entry))) g (r .status) (groupPlaces (r .count) (now (heads .exit)) (now (members .exit))) ⌝ }
 {
     let p = group_find(heads, members, count, g.id);
     let at = p.at;
@@ -83,7 +87,7 @@ pub fn group_add(
             count: count,
         };
     }
-    if 128 <= n {
+    if MAX_GROUPS <= n {
         return Counted {
             status: Status::Enomem,
             count: count,
@@ -109,12 +113,12 @@ pub fn group_add(
 
 // The group with an ID taken out, those after it moved down.
 pub fn group_del(
-    heads: &mut [[u32; 3]; 128],
-    members: &mut [[u16; 62]; 128],
+    heads: &mut GroupHeads,
+    members: &mut GroupMembers,
     count: usize,
     id: u32,
 ) -> Counted
-    ensures { λ r. ⌜ Deleted groupsIn idOf 128 (groupPlaces count (now (heads .entry)) (now (members .entry))) id (r .status) (groupPlaces (r .count) (now (heads .exit)) (now (members .exit))) ⌝ }
+    ensures { λ r. ⌜ Deleted groupsIn idOf maxGroups (groupPlaces count (now (heads .entry)) (now (members .entry))) id (r .status) (groupPlaces (r .count) (now (heads .exit)) (now (members .exit))) ⌝ }
 {
     let p = group_find(heads, members, count, id);
     let n = p.live;

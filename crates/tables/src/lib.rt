@@ -1,5 +1,11 @@
 // The flow table and the group table, changed where they stand: the caller lends the arrays of their places. A command finds the place of
 // its key and changes that place, and those behind it where an entry is put in or taken out.
+use rules::FlowRows;
+use rules::GroupHeads;
+use rules::GroupMembers;
+use rules::MAX_FLOWS;
+use rules::MAX_GROUPS;
+use rules::MAX_MEMBERS;
 use rules::Status;
 ghost use mathlib.Core.Path.{_≡_};
 ghost use Rattle.rules.specs.Tables.{arrays, freshArrays};
@@ -28,14 +34,10 @@ pub struct Counted {
 }
 
 // 256 flow places and 128 group places, all free: every word is 0, so that nothing of what stood there is left.
-pub fn clear(
-    flows: &mut [[u32; 16]; 256],
-    heads: &mut [[u32; 3]; 128],
-    members: &mut [[u16; 62]; 128],
-)
+pub fn clear(flows: &mut FlowRows, heads: &mut GroupHeads, members: &mut GroupMembers)
     ensures { λ _. ⌜ arrays (now (flows .exit)) (now (heads .exit)) (now (members .exit)) ≡ freshArrays ⌝ }
 {
-    *flows = [[0; 16]; 256];
-    *heads = [[0; 3]; 128];
-    *members = [[0; 62]; 128];
+    *flows = [[0; 16]; MAX_FLOWS];
+    *heads = [[0; 3]; MAX_GROUPS];
+    *members = [[0; MAX_MEMBERS]; MAX_GROUPS];
 }

@@ -5,7 +5,7 @@ use mathlib.Core.Path.{_≡_, refl, sym, ap, _∙_}
 use mathlib.Core.Bool.{not}
 use mathlib.Core.List.{List, []}
 use native.Mathlib.Omega.{arith}
-use lib.ListN.{length, length-set, getD, set, replicate, getD-replicate}
+use lib.ListN.{length, length-set, getD, replicate, getD-replicate}
 use lib.Seq.{getD-set-same, getD-set-other}
 use lib.Dec.{T as Holds}
 use borrow.Author.Tests.{le-ltb, lt-ltb}

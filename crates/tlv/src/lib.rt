@@ -2,15 +2,15 @@
 ghost use mathlib.Core.Path.{_≡_};
 ghost use Rattle.rules.specs.Region.{wellFormed};
 ghost use Rattle.tlv.specs.Index.{marked as Index·marked, noted as Index·noted, stops as Index·stops, isEnd, Indexed};
+use rules::FIELD_TYPES;
 use rules::Step;
-use rules::Tlv;
 
 pub mod reader;
 
 // What a pass over a region gives. `places` has a number for each type below 44: 0 where the region has no value of that type, 1 where
 // it has more than one, else where its value starts, which is at 8 or later.
 pub struct Index {
-    pub places: [usize; 44],
+    pub places: [usize; FIELD_TYPES],
     pub whole: bool,
 }
 
@@ -20,14 +20,14 @@ fn marked(place: usize, start: usize) -> usize
     if place == 0 { start } else { 1 }
 }
 
-// What a step adds to the places so far. A type of 44 or more is in no table and is skipped.
-fn note(places: &mut [usize; 44], step: Step)
+// What a step adds to the places so far. A type past those is in no table and is skipped.
+fn note(places: &mut [usize; FIELD_TYPES], step: Step)
     ensures { λ _. ⌜ now (places .exit) ≡ Index·noted (now (places .entry)) step ⌝ }
 {
     match step {
         Step::Next(x) => {
             let kind = x.kind;
-            if kind < 44 {
+            if kind < FIELD_TYPES as u32 {
                 let t = kind as usize;
                 places[t] = marked(places[t], x.start);
             }
@@ -59,7 +59,7 @@ pub fn is_end(step: Step) -> bool
     }
 }
 
-fn closed(places: [usize; 44], step: Step) -> Index
+fn closed(places: [usize; FIELD_TYPES], step: Step) -> Index
     ensures { λ r. ⌜ (r .places ≡ places) × (r .whole ≡ isEnd step) ⌝ }
 {
     Index {
@@ -73,7 +73,7 @@ pub fn index_of(s: &[u8]) -> Index
     ensures { λ r. ⌜ (Indexed (now (s .entry)) (r .places)) × (r .whole ≡ wellFormed (now (s .entry))) ⌝ }
 {
     let mut r = reader::new(s, 0);
-    let mut places = [0; 44];
+    let mut places = [0; FIELD_TYPES];
     loop {
         let step = reader::next(r);
         if stops(step) {

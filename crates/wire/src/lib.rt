@@ -11,18 +11,11 @@ fn wide(b: u8) -> u64
     b as u64
 }
 
-// The smaller of two numbers: a count beyond what there is counts as all of it.
-pub fn least(a: usize, b: usize) -> usize
-    ensures { λ r. ⌜ r ≡ min a b ⌝ }
-{
-    if a < b { a } else { b }
-}
-
 // The little-endian number of the first n bytes, eight at most.
 fn number(s: &[u8], n: usize) -> u64
     ensures { λ r. ⌜ r ≡ le (min n 8) (now (s .entry)) ⌝ }
 {
-    let mut k = least(least(n, 8), s.len());
+    let mut k = numbers::min(numbers::min(n, 8), s.len());
     let mut v = 0;
     while 0 < k {
         k -= 1;

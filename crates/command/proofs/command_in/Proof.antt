@@ -1,10 +1,10 @@
+-- Each branch takes the rule's tests as far as its own; past the flow commands the rule is what is left of it (`past-flows`).
 use Rattle.rules.specs.declared.Command.the-variants.{GroupAdd, GroupMod}
 use Rattle.rules.specs.Decode.{groupIn, groupKeyIn, commandIn}
 use Rattle.rules.specs.Choose.{choose}
 use lib.Dec.{eqb}
 use denote.Ref.{now}
 use mathlib.Core.Path.{_≡_}
-use Rattle.rules.specs.Decode.{commandIn}
 use borrow.Author.Tests.{eq-eqb, ne-eqb}
 use borrow.Author.Needs.{needs}
 use Rattle.command.proofs.command_in.Statement.{statement}
@@ -50,8 +50,8 @@ returns-3 c =
 past-flows : (c : tie.Else3)
     → let a = c .before .before .before .before .args in
     let s = now (a .s) in
-    commandIn (a .ports) (a .c) s
-    ≡ choose (eqb (a .c) 7) (groupIn (a .ports) s GroupAdd) (choose (eqb (a .c) 8) (groupIn (a .ports) s GroupMod) (groupKeyIn s))
+    commandIn (a .terms) (a .c) s
+    ≡ choose (eqb (a .c) 7) (groupIn (a .terms) s GroupAdd) (choose (eqb (a .c) 8) (groupIn (a .terms) s GroupMod) (groupKeyIn s))
 unfolding commandIn
 past-flows c = simp (ne-eqb _ _ (c .before .before .if1 .left), ne-eqb _ _ (c .before .if2 .left), ne-eqb _ _ (c .if3 .left))
 

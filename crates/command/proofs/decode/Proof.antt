@@ -1,3 +1,4 @@
+-- Each test that is passed leaves the rest of the rule (`past-top`, `past-type`), and the next place goes on from there.
 use Rattle.rules.specs.declared.Status.the-variants.{Einval, Enotsup}
 use Rattle.rules.specs.Decode.{need, isCommand, commandType, commandInfo, commandIn, decode}
 use Rattle.rules.specs.Fields.{numberIn, nestIn}
@@ -50,9 +51,9 @@ past-top : (c : tie.Else1)
     let f = g .before .before .before in
     let a = f .before .before .before .before .before .args in
     let s = now (a .payload) in
-    decode (a .ports) s
+    decode (a .terms) s
     ≡ need (isCommand (numberIn s 2 (f .found .result))) Enotsup
-    (need (wellFormed (nestIn s (g .found2 .result))) Einval (commandIn (a .ports) (numberIn s 2 (f .found .result)) (nestIn s (g .found2 .result))))
+    (need (wellFormed (nestIn s (g .found2 .result))) Einval (commandIn (a .terms) (numberIn s 2 (f .found .result)) (nestIn s (g .found2 .result))))
 unfolding decode need commandType commandInfo
 past-top c =
     let i = c .before in
@@ -89,7 +90,7 @@ past-type : (c : tie.Else2)
     let g = n .before .before .before .before in
     let a = g .before .before .before .before .before .before .before .before .args in
     let s = now (a .payload) in
-    decode (a .ports) s ≡ need (wellFormed (nestIn s (g .found2 .result))) Einval (commandIn (a .ports) (n .number-in .result) (nestIn s (g .found2 .result)))
+    decode (a .terms) s ≡ need (wellFormed (nestIn s (g .found2 .result))) Einval (commandIn (a .terms) (n .number-in .result) (nestIn s (g .found2 .result)))
 unfolding need
 past-type c =
     let k = c .before in

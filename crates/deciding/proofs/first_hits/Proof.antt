@@ -1,3 +1,5 @@
+-- One pass from the last place to the first keeps, for tables 0 and 10 at once, the best of the places that were passed.
+-- Assumes nothing.
 use mathlib.Core.Path.{ap, _∙_}
 use Rattle.rules.specs.declared.FlowEntry.{FlowEntry}
 use Rattle.deciding.specs.Way.{Scanned}
@@ -14,8 +16,8 @@ Inv-loop rows count port vlan i₀ first₀ second₀ i first second =
 abbrev μ-loop : tie.MeasureT-loop
 μ-loop rows count port vlan i₀ first₀ second₀ i first second = i
 
-least-requires : tie.Need-least-requires Inv-loop μ-loop
-least-requires c κs = search needs
+min-requires : tie.Need-min-requires Inv-loop μ-loop
+min-requires c κs = search needs
 
 none-requires : tie.Need-none-requires Inv-loop μ-loop
 none-requires c κs = search needs
@@ -27,7 +29,7 @@ loop-holds : tie.Need-loop-holds Inv-loop μ-loop
 loop-holds c =
     let n = c .before .before in
     let g = n .before .all .given in
-    let l = n .least .ensures in
+    let l = n .min .ensures in
     (scan-starts (omega (arith, g)) (omega (arith, l, g)) (c .before .none .ensures), scan-starts (omega (arith, g)) (omega (arith, l, g)) (c .none2 .ensures))
 
 sub-i : tie.Need-sub-i Inv-loop μ-loop
@@ -73,7 +75,7 @@ first-hits-spec =
     (tie.spec
     Inv-loop
     μ-loop
-    least-requires
+    min-requires
     none-requires
     none-requires-2
     loop-holds

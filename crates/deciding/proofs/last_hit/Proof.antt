@@ -12,8 +12,8 @@ Inv-loop rows count vlan mac i₀ hit₀ i hit =
 abbrev μ-loop : tie.MeasureT-loop
 μ-loop rows count vlan mac i₀ hit₀ i hit = i
 
-least-requires : tie.Need-least-requires Inv-loop μ-loop
-least-requires c κs = search needs
+min-requires : tie.Need-min-requires Inv-loop μ-loop
+min-requires c κs = search needs
 
 none-requires : tie.Need-none-requires Inv-loop μ-loop
 none-requires c κs = search needs
@@ -22,7 +22,7 @@ loop-holds : tie.Need-loop-holds Inv-loop μ-loop
 loop-holds c =
     let n = c .before in
     let g = n .before .all .given in
-    scan-starts (omega (arith, g)) (omega (arith, n .least .ensures, g)) (c .none .ensures)
+    scan-starts (omega (arith, g)) (omega (arith, n .min .ensures, g)) (c .none .ensures)
 
 skip-requires : tie.Need-skip-requires Inv-loop μ-loop
 skip-requires c κs = search needs
@@ -52,7 +52,7 @@ last-hit-spec =
     (tie.spec
     Inv-loop
     μ-loop
-    least-requires
+    min-requires
     none-requires
     loop-holds
     skip-requires

@@ -1,3 +1,5 @@
+-- Table by table: each hit either ends the way, and then so does the rules' way, or hands it on to the next table.
+-- Assumes nothing.
 use mathlib.Core.Path.{sym, _∙_}
 use Rattle.deciding.specs.Way.{exitIn}
 use Rattle.deciding.proofs.Tables.{after-0, after-10, after-50, nowhere}

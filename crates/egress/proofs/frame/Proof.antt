@@ -1,7 +1,9 @@
+-- The answers in their order: each return has the tests before it as facts, and the rules' refusal comes out with the same number.
+-- Assumes nothing.
 use mathlib.Core.Path.{sym, _∙_}
 use Rattle.rules.specs.Tables.{tablesOf}
 use borrow.Author.Tests.{not-true, not-false}
-use Rattle.registers.proofs.Bitmaps.{port-small}
+use Rattle.ports.proofs.Bitmaps.{port-small}
 use Rattle.egress.proofs.Outcomes.{port-refused, frame-refused, list-refused, port-down, port-up}
 use native.Mathlib.Omega.{arith}
 use borrow.Author.Needs.{needs}

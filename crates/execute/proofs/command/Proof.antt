@@ -1,21 +1,10 @@
 -- `execute::command` meets its contract: each arm is one law of Carried.
+-- One return a command: each is the law of its table, and the other table stays.
 -- Assumes nothing.
 use Rattle.execute.proofs.Carried.{flow-added, flow-replaced, flow-removed, group-added, group-replaced, group-removed}
 use borrow.Author.Needs.{needs}
 use Rattle.execute.proofs.command.Statement.{statement}
 use Rattle.execute.proofs.command.Tie as tie
-use Rattle.execute.proofs.command.Reads as reads
-use Rattle.execute.proofs.command.Lts as lts
-use Rattle.execute.proofs.flow_entry.Reads as flow-entry-reads
-use Rattle.execute.proofs.group_entry.Reads as group-entry-reads
-use Rattle.execute.proofs.of_flows.Reads as of-flows-reads
-use Rattle.execute.proofs.of_groups.Reads as of-groups-reads
-use Rattle.tables.proofs.flow_add.Reads as flow-add-reads
-use Rattle.tables.proofs.flow_del.Reads as flow-del-reads
-use Rattle.tables.proofs.flow_mod.Reads as flow-mod-reads
-use Rattle.tables.proofs.group_add.Reads as group-add-reads
-use Rattle.tables.proofs.group_del.Reads as group-del-reads
-use Rattle.tables.proofs.group_mod.Reads as group-mod-reads
 
 enum-known-c : tie.Need-enum-known-c
 enum-known-c c = search needs

@@ -5,9 +5,6 @@ use Rattle.execute.proofs.Carried.{refused}
 use borrow.Author.Needs.{needs}
 use Rattle.execute.proofs.execute.Statement.{statement}
 use Rattle.execute.proofs.execute.Tie as tie
-use Rattle.execute.proofs.execute.Reads as reads
-use Rattle.execute.proofs.execute.Lts as lts
-use Rattle.execute.proofs.command.Reads as command-reads
 
 enum-known-what : tie.Need-enum-known-what
 enum-known-what c = search needs

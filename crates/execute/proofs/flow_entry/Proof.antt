@@ -1,13 +1,7 @@
-use mathlib.Core.Path.{refl}
 use Rattle.rules.specs.Tables.{flowEntry, storedFlow}
-use Rattle.execute.specs.Entries.{commonEntry}
-use native.Mathlib.Omega.{arith}
 use borrow.Author.Needs.{needs}
 use Rattle.execute.proofs.flow_entry.Statement.{statement}
 use Rattle.execute.proofs.flow_entry.Tie as tie
-use Rattle.execute.proofs.flow_entry.Reads as reads
-use Rattle.execute.proofs.flow_entry.Lts as lts
-use Rattle.execute.proofs.common_entry.Reads as common-entry-reads
 
 common-entry-requires : tie.Need-common-entry-requires
 common-entry-requires c κs = search needs
@@ -22,15 +16,15 @@ enum-known-m-3 : tie.Need-enum-known-m-3
 enum-known-m-3 c = search needs
 
 returns : tie.Need-returns
-unfolding flowEntry storedFlow commonEntry
+unfolding flowEntry storedFlow
 returns c = rw (c .before .before .before .common-entry .ensures, c .before .m .given .1)
 
 returns-2 : tie.Need-returns-2
-unfolding flowEntry storedFlow commonEntry
+unfolding flowEntry storedFlow
 returns-2 c = rw (c .before .before .before .common-entry .ensures, c .before .m2 .given .1)
 
 returns-3 : tie.Need-returns-3
-unfolding flowEntry storedFlow commonEntry
+unfolding flowEntry storedFlow
 returns-3 c = rw (c .before .before .before .common-entry .ensures, c .before .m3 .given .1)
 
 pub flow-entry-spec : {M : Type 1} → statement M

@@ -1,11 +1,7 @@
 use mathlib.Core.Path.{refl}
 use Rattle.rules.specs.Tables.{groupEntry}
-use borrow.Author.Needs.{needs}
-use native.Mathlib.Omega.{arith}
 use Rattle.execute.proofs.group_entry.Statement.{statement}
 use Rattle.execute.proofs.group_entry.Tie as tie
-use Rattle.execute.proofs.group_entry.Reads as reads
-use Rattle.execute.proofs.group_entry.Lts as lts
 
 returns : tie.Need-returns
 unfolding groupEntry

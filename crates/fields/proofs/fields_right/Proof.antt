@@ -1,3 +1,6 @@
+-- From type 43 down: all fields are right exactly if those below t are.
+-- Assumes nothing.
+use Rattle.rules.specs.Limits.{fieldTypes}
 use Rattle.rules.proofs.FieldTable.{every-none, every-fails, every-next}
 use Rattle.rules.specs.Fields.{fieldRight, fieldsRight, everyBelow}
 use mathlib.Core.Path.{_≡_, refl, sym, _∙_}
@@ -9,13 +12,16 @@ use Rattle.fields.proofs.fields_right.Statement.{statement}
 use Rattle.fields.proofs.fields_right.Tie as tie
 
 abbrev Inv-loop : tie.InvT-loop
-Inv-loop s places who rules t₀ t = (fieldsRight s who ≡ everyBelow t (fieldRight s who)) × (t ≤ 44)
+Inv-loop s places who rules t₀ t = (fieldsRight s who ≡ everyBelow t (fieldRight s who)) × (t ≤ fieldTypes)
 
 abbrev μ-loop : tie.MeasureT-loop
 μ-loop s places who rules t₀ t = t
 
 table-requires : tie.Need-table-requires Inv-loop μ-loop
 table-requires c κs = search needs
+
+cast-t : tie.Need-cast-t Inv-loop μ-loop
+cast-t c = search needs
 
 loop-holds : tie.Need-loop-holds Inv-loop μ-loop
 unfolding fieldsRight
@@ -61,6 +67,7 @@ fields-right-spec =
     Inv-loop
     μ-loop
     table-requires
+    cast-t
     loop-holds
     sub-t
     cast-rule

@@ -1,3 +1,4 @@
+-- By the kind of the step; a TLV's test is the rule's (`told`), whichever way it comes out.
 use Rattle.members.specs.Taking.{rightAfter, counted, stored}
 use Rattle.rules.specs.Members.{memberRight}
 use borrow.Author.Tests.{le-ltb, not-true, not-false}

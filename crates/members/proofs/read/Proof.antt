@@ -23,7 +23,7 @@ use base.Fml.{Lft, Share, GName, ftrue, fsep, flft, flent, fat, froom, fdies}
 use prog.Memory.{Memory}
 use prog.Routine.{Routine}
 use prog.Wp.{Heap, Out, Env, WpFn, Wp, Tables, afterSeq, afterBlock, afterTurn, atReturn}
-use ghost.Atoms.{Atoms, sem}
+use ghost.Atoms.{Atoms}
 use contract.Monad.{Fun, fact}
 use contract.Running.{givenOf, tables, tablesOf}
 use types.Kit.{Given, Item, ‵, raw, _⊛_, some, later, ⋆, runs, anyQ, Sq, _$_, _∵_, !, qed, by, move, keep, drop, use0, use1, use2, use3, split, join, pick, fsplit, fjoin, fpick, fpack, await, rewrite, suffices, frame, done}

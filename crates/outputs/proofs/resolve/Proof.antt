@@ -1,3 +1,5 @@
+-- The loop keeps: the first k members are resolved in the list, and the search position fits the last ID that was looked up.
+-- Assumes nothing.
 use Prim.Native.Nat.{_≤_, _-_}
 use mathlib.Core.Path.{_≡_}
 use lib.ListN.{length}
@@ -18,15 +20,15 @@ Inv-loop d heads count ingress vlan group-vlan list₀ m size k₀ out₀ at₀ 
 abbrev μ-loop : tie.MeasureT-loop
 μ-loop d heads count ingress vlan group-vlan list₀ m size k₀ out₀ at₀ last₀ list k out at last = size - k
 
-least-requires : tie.Need-least-requires Inv-loop μ-loop
-least-requires c κs = search needs
+min-requires : tie.Need-min-requires Inv-loop μ-loop
+min-requires c κs = search needs
 
 loop-holds : tie.Need-loop-holds Inv-loop μ-loop
 unfolding lowsIn
 loop-holds c =
     let a = c .before .before .args in
     let k : length (a .t7 .lows) ≡ 62 = search needs in
-    (omega arith, omega arith, live-length (c .least .result) (a .t7 .count) 62 (a .t7 .lows) (c .least .ensures) k, passed-none _ _, resolved-none _ _ _ _ _ _ _ _ _)
+    (omega arith, omega arith, live-length (c .min .result) (a .t7 .count) 62 (a .t7 .lows) (c .min .ensures) k, passed-none _ _, resolved-none _ _ _ _ _ _ _ _ _)
 
 mul-member-id : tie.Need-mul-member-id Inv-loop μ-loop
 mul-member-id c = search needs
@@ -108,7 +110,7 @@ resolve-spec =
     (tie.spec
     Inv-loop
     μ-loop
-    least-requires
+    min-requires
     loop-holds
     mul-member-id
     element-copy-out-member-id

@@ -14,14 +14,14 @@ Inv-loop heads count id from n at₀ at = (n ≡ length (take count heads)) × (
 abbrev μ-loop : tie.MeasureT-loop
 μ-loop heads count id from n at₀ at = n - at
 
-least-requires : tie.Need-least-requires Inv-loop μ-loop
-least-requires c κs = search needs
+min-requires : tie.Need-min-requires Inv-loop μ-loop
+min-requires c κs = search needs
 
 loop-holds : tie.Need-loop-holds Inv-loop μ-loop
 loop-holds c =
     let a = c .before .before .args in
     let g = c .before .all .given in
-    (omega (arith, c .least .ensures, length-take (a .count) (a .heads .now), g), omega (arith, c .least .ensures, g), c .before .before .pre)
+    (omega (arith, c .min .ensures, length-take (a .count) (a .heads .now), g), omega (arith, c .min .ensures, g), c .before .before .pre)
 
 mul-k : tie.Need-mul-k Inv-loop μ-loop
 mul-k c = search needs
@@ -57,7 +57,7 @@ seek-spec =
     (tie.spec
     Inv-loop
     μ-loop
-    least-requires
+    min-requires
     loop-holds
     mul-k
     index-1-k

@@ -7,6 +7,9 @@ use Rattle.tlv.proofs.note.Tie as tie
 enum-known-step : tie.Need-enum-known-step
 enum-known-step c = search needs
 
+cast-if1 : tie.Need-cast-if1
+cast-if1 c = search needs
+
 cast-t : tie.Need-cast-t
 cast-t c = search needs
 
@@ -54,6 +57,7 @@ note-spec =
     tie.close
     (tie.spec
     enum-known-step
+    cast-if1
     cast-t
     mul-marked
     element-copy-out-marked

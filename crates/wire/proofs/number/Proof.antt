@@ -1,3 +1,5 @@
+-- From the last byte to the first: v is the number of the bytes from k on, and below 2^56 while a byte is left.
+-- Assumes nothing.
 use Rattle.wire.proofs.Numbers.{reading-starts, reading-goes-on, reading-fits, reading-ends}
 use Rattle.rules.specs.Bytes.{le}
 use lib.ListN.{length, drop}
@@ -15,11 +17,11 @@ Inv-loop s n k₀ v₀ k v = (k ≤ min n 8) × (k ≤ length s) × (v ≡ le (m
 abbrev μ-loop : tie.MeasureT-loop
 μ-loop s n k₀ v₀ k v = k
 
-least-requires : tie.Need-least-requires Inv-loop μ-loop
-least-requires c κs = search needs
+min-requires : tie.Need-min-requires Inv-loop μ-loop
+min-requires c κs = search needs
 
-least-requires-2 : tie.Need-least-requires-2 Inv-loop μ-loop
-least-requires-2 c κs = search needs
+min-requires-2 : tie.Need-min-requires-2 Inv-loop μ-loop
+min-requires-2 c κs = search needs
 
 loop-holds : tie.Need-loop-holds Inv-loop μ-loop
 loop-holds c =
@@ -64,8 +66,8 @@ number-spec =
     (tie.spec
     Inv-loop
     μ-loop
-    least-requires
-    least-requires-2
+    min-requires
+    min-requires-2
     loop-holds
     sub-k
     mul-v

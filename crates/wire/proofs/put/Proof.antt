@@ -1,3 +1,5 @@
+-- What is still to be written, put over what stands there now, is always the whole number put over the old slice.
+-- Assumes nothing.
 use Rattle.wire.proofs.Numbers.{writing-starts, writing-goes-on, writing-ends, inside-true}
 use Rattle.wire.specs.Put.{put}
 use Rattle.rules.specs.Bytes.{inside, bytesOf, splice}

@@ -1,3 +1,4 @@
+-- Past the table the rule is one test and what it carries (`past-table`), and that test is the code's (`told`).
 use Rattle.rules.specs.declared.Command.the-variants.{FlowAdd, FlowMod}
 use Rattle.rules.specs.declared.Status.the-variants.{Einval}
 use mathlib.Core.List.{[]}
@@ -5,13 +6,11 @@ use Rattle.rules.specs.Decode.{need, carried, matchOf, flowOf, flowUser, matchA
 use Rattle.rules.specs.Fields.{fieldsRight, value, given}
 use Rattle.rules.specs.Choose.{choose}
 use Rattle.rules.specs.declared.Flow.{Flow}
-use Rattle.rules.specs.Decode.{need, matchOf, flowOf, matchAllowed, flowIn}
 use Rattle.rules.specs.Members.{pad}
-use Rattle.rules.specs.Fields.{value, given}
 use borrow.Author.Tests.{not-true, not-false}
 use denote.Ref.{now}
 use mathlib.Core.Bool.{_&&_}
-use mathlib.Core.Path.{_≡_, refl, ap}
+use mathlib.Core.Path.{_≡_, refl, ap, _∙_}
 use borrow.Author.Needs.{needs}
 use Rattle.command.proofs.flow.flow_in.Statement.{statement}
 use Rattle.command.proofs.flow.flow_in.Tie as tie
@@ -55,8 +54,8 @@ past-table : (c : tie.Else2)
     let a = v .before .before .before .before .args in
     let s = now (a .s) in
     let t = v .value .result in
-    flowIn (a .ports) s (choose (a .add) FlowAdd FlowMod)
-    ≡ need (fieldsRight s (flowUser t) && matchAllowed (a .ports) (value s 9) (given s 19) (matchOf s t)) Einval
+    flowIn (a .terms) s (choose (a .add) FlowAdd FlowMod)
+    ≡ need (fieldsRight s (flowUser t) && matchAllowed (a .terms) (value s 9) (given s 19) (matchOf s t)) Einval
     (carried (choose (a .add) FlowAdd FlowMod (flowOf s t)) [])
 unfolding flowIn need
 past-table c =
@@ -93,13 +92,13 @@ told : (c : tie.After-match-allowed)
     → let f = c .before .before .before .before in
     let v = f .before .before .before in
     let a = v .before .before .before .before .args in
-    c .match-allowed .result ≡ matchAllowed (a .ports) (value (now (a .s)) 9) (given (now (a .s)) 19) (matchOf (now (a .s)) (v .value .result))
+    c .match-allowed .result ≡ matchAllowed (a .terms) (value (now (a .s)) 9) (given (now (a .s)) 19) (matchOf (now (a .s)) (v .value .result))
 unfolding flowOf
 told c =
     let f = c .before .before .before .before in
     let g = ap (λ (x : Flow). x .«goto_tbl») (f .flow-of .ensures) in
     let m = ap (λ (x : Flow). x .matching) (f .flow-of .ensures) in
-    cc
+    c .match-allowed .ensures ∙ rw (g, m, c .before .before .before .given2 .ensures)
 
 returns-3 : tie.Need-returns-3
 unfolding need

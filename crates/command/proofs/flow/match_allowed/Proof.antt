@@ -27,7 +27,7 @@ returns c = simp (c .enum-told .given .1)
 
 returns-2 : tie.Need-returns-2
 unfolding matchAllowed
-returns-2 c = simp (c .before .before .m .given .1, ← c .new-vlan-fits .ensures)
+returns-2 c = simp (c .before .before .before .m .given .1, ← c .new-vlan-fits .ensures)
 
 returns-3 : tie.Need-returns-3
 unfolding matchAllowed

@@ -26,19 +26,23 @@ low-of-requires c κs = search needs
 cast-result : tie.Need-cast-result
 cast-result c = search needs
 
+cast-result-2 : tie.Need-cast-result-2
+cast-result-2 c = search needs
+
 value-requires-2 : tie.Need-value-requires-2
 value-requires-2 c κs = search needs
 
 returns-2 : tie.Need-returns-2
 unfolding groupAllowed
 returns-2 c = λ l e.
-    let v = c .before .before .before in
+    let l = c .before .before in
+    let v = l .before .before in
     simp (
       ← v .before .before .type-of .ensures,
       eq-eqb _ _ (v .before .if1 .left),
       ← v .value .ensures,
-      ← c .before .before .allowed2 .ensures,
-      ← c .before .low-of .ensures,
+      ← l .before .allowed2 .ensures,
+      ← l .low-of .ensures,
       ← c .value2 .ensures,
     )
 
@@ -53,5 +57,6 @@ group-allowed-spec =
     allowed-requires-2
     low-of-requires
     cast-result
+    cast-result-2
     value-requires-2
     returns-2)

@@ -1,3 +1,4 @@
+-- The code's test is the rule's (`told`), and a group that passed it has a count that fits its field (`count-fits`).
 use Rattle.command.proofs.Counts.{count-fits}
 use Rattle.members.specs.declared.Members.{Members}
 use Rattle.members.specs.Listed.{listed}
@@ -35,7 +36,7 @@ refused-requires c κs = search needs
 told : (c : tie.After-group-allowed)
     → let w = c .before .before .before .before in
     let a = w .before .before .args in
-    c .group-allowed .result ≡ groupAllowed (a .ports) (now (a .s)) (w .word .result) (membersOf (now (a .s)) (w .word .result))
+    c .group-allowed .result ≡ groupAllowed (a .terms) (now (a .s)) (w .word .result) (membersOf (now (a .s)) (w .word .result))
 unfolding listed
 told c = c .group-allowed .ensures _ (ap (λ (m : Members). m .right) (c .before .before .before .members-of .ensures))
 

@@ -1,10 +1,11 @@
--- `tables::flows::flow_add` meets its contract.
+-- The rows from the place on are shifted up, from behind, through the one free place behind the last (`Shifted`); then the flow goes into the
+-- place that is free. Each way out is a law of InPlace.
 -- Assumes nothing.
 use borrow.Author.Needs.{needs}
 use mathlib.Core.List.{[]}
 use Rattle.tables.proofs.Slots.{Shifted, unshifted, shift-down}
 use mathlib.Core.Path.{refl}
-use Rattle.rules.specs.Places.{live, places}
+use Rattle.rules.specs.Places.{live}
 use Rattle.rules.specs.Tables.{cookieOf}
 use Rattle.rules.specs.Rows.{entryIn}
 use Rattle.tables.proofs.InPlace.{added, twice, full}

@@ -1,4 +1,4 @@
--- `tables::flows::flow_del` meets its contract.
+-- The rows behind the place are shifted down (`Shifted`), and the last is free then. Each way out is a law of InPlace.
 -- Assumes nothing.
 use borrow.Author.Needs.{needs}
 use Prim.Native.Nat.{_-_}
@@ -6,7 +6,7 @@ use mathlib.Core.Path.{refl}
 use mathlib.Core.List.{[]}
 use Rattle.tables.proofs.Slots.{Shifted, unshifted, shift-up}
 use Rattle.tables.proofs.Search.{held-lt}
-use Rattle.rules.specs.Places.{live, places}
+use Rattle.rules.specs.Places.{live}
 use Rattle.rules.specs.Tables.{cookieOf}
 use Rattle.rules.specs.Rows.{entryIn}
 use Rattle.tables.proofs.InPlace.{deleted, absent}

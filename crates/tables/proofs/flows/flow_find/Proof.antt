@@ -1,4 +1,4 @@
--- `tables::flows::flow_find` meets its contract.
+-- The loop passes rows with a lower key (`Searching`), and stops at the first that is not lower, or at the end.
 -- Assumes nothing.
 use borrow.Author.Needs.{needs}
 use Prim.Native.Nat.{_-_}
@@ -16,11 +16,11 @@ Inv-loop rows count key n at₀ held₀ at held = Searching cookieIn 256 key n c
 abbrev μ-loop : tie.MeasureT-loop
 μ-loop rows count key n at₀ held₀ at held = n - at
 
-least-requires : tie.Need-least-requires Inv-loop μ-loop
-least-requires c κs = search needs
+min-requires : tie.Need-min-requires Inv-loop μ-loop
+min-requires c κs = search needs
 
 loop-holds : tie.Need-loop-holds Inv-loop μ-loop
-loop-holds c = begin cookieIn (omega (arith, c .before .all .given)) (omega (arith, c .least .ensures, c .before .all .given))
+loop-holds c = begin cookieIn (omega (arith, c .before .all .given)) (omega (arith, c .min .ensures, c .before .all .given))
 
 mul-join : tie.Need-mul-join Inv-loop μ-loop
 mul-join c = search needs
@@ -70,7 +70,7 @@ flow-find-spec =
     (tie.spec
     Inv-loop
     μ-loop
-    least-requires
+    min-requires
     loop-holds
     mul-join
     index-1-join

@@ -1,8 +1,8 @@
--- `tables::flows::flow_mod` meets its contract.
+-- One row is stored over. Each way out is a law of InPlace.
 -- Assumes nothing.
 use Rattle.tables.proofs.Search.{held-lt}
 use mathlib.Core.Path.{refl}
-use Rattle.rules.specs.Places.{live, places}
+use Rattle.rules.specs.Places.{live}
 use Rattle.rules.specs.Tables.{cookieOf}
 use Rattle.rules.specs.Rows.{entryIn}
 use Rattle.tables.proofs.InPlace.{modded, absent}

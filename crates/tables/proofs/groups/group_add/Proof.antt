@@ -1,4 +1,4 @@
--- `tables::groups::group_add` meets its contract.
+-- As flow_add, on two arrays: what is found among the heads is found among the pairs (`found`), and these are shifted (`Shifting`).
 -- Assumes nothing.
 use mathlib.Core.Path.{refl}
 use lib.ListN.{take}

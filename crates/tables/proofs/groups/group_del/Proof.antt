@@ -1,4 +1,4 @@
--- `tables::groups::group_del` meets its contract.
+-- As flow_del, on two arrays: what is found among the heads is found among the pairs (`found`), and these are shifted (`Shifting`).
 -- Assumes nothing.
 use borrow.Author.Needs.{needs}
 use Prim.Native.Nat.{_-_}

@@ -1,4 +1,4 @@
--- `tables::groups::group_find` meets its contract.
+-- As flow_find, on the heads; the length of the members is carried along.
 -- Assumes nothing.
 use Prim.Native.Nat.{_-_}
 use mathlib.Core.Path.{_≡_, refl}
@@ -17,13 +17,13 @@ Inv-loop heads members count key n at₀ held₀ at held = (length members ≡ 1
 abbrev μ-loop : tie.MeasureT-loop
 μ-loop heads members count key n at₀ held₀ at held = n - at
 
-least-requires : tie.Need-least-requires Inv-loop μ-loop
-least-requires c κs = search needs
+min-requires : tie.Need-min-requires Inv-loop μ-loop
+min-requires c κs = search needs
 
 loop-holds : tie.Need-loop-holds Inv-loop μ-loop
 loop-holds c =
     let h = c .before .before .all .given in
-    (omega (arith, c .before .beside-them .given), begin idIn (omega (arith, h)) (omega (arith, c .least .ensures, h)))
+    (omega (arith, c .before .beside-them .given), begin idIn (omega (arith, h)) (omega (arith, c .min .ensures, h)))
 
 mul-k : tie.Need-mul-k Inv-loop μ-loop
 mul-k c = search needs
@@ -62,7 +62,7 @@ group-find-spec =
     (tie.spec
     Inv-loop
     μ-loop
-    least-requires
+    min-requires
     loop-holds
     mul-k
     index-1-k

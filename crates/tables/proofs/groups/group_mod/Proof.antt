@@ -1,4 +1,4 @@
--- `tables::groups::group_mod` meets its contract.
+-- As flow_mod, on two arrays: what is found among the heads is found among the pairs.
 -- Assumes nothing.
 use mathlib.Core.Path.{refl}
 use Rattle.rules.specs.Tables.{idOf}

@@ -1,7 +1,7 @@
 use Rattle.rules.specs.Fields.{numberIn}
 use borrow.Author.Needs.{needs}
-use Rattle.fields.proofs.found.number_in.Statement.{statement}
-use Rattle.fields.proofs.found.number_in.Tie as tie
+use Rattle.found.proofs.number_in.Statement.{statement}
+use Rattle.found.proofs.number_in.Tie as tie
 
 enum-known-f : tie.Need-enum-known-f
 enum-known-f c = search needs

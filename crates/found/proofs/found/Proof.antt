@@ -2,8 +2,8 @@ use Rattle.rules.specs.Region.{fitsWidth}
 use Rattle.tlv.specs.Index.{sizeAt, foundAt}
 use borrow.Author.Tests.{lt-ltb, le-ltb, eq-eqb, ne-eqb}
 use borrow.Author.Needs.{needs}
-use Rattle.fields.proofs.found.found.Statement.{statement}
-use Rattle.fields.proofs.found.found.Tie as tie
+use Rattle.found.proofs.found.Statement.{statement}
+use Rattle.found.proofs.found.Tie as tie
 
 mul-place : tie.Need-mul-place
 mul-place c = search needs

@@ -1,7 +1,7 @@
 use Rattle.rules.specs.Fields.{nestIn}
 use borrow.Author.Needs.{needs}
-use Rattle.fields.proofs.found.nest_in.Statement.{statement}
-use Rattle.fields.proofs.found.nest_in.Tie as tie
+use Rattle.found.proofs.nest_in.Statement.{statement}
+use Rattle.found.proofs.nest_in.Tie as tie
 
 enum-known-f : tie.Need-enum-known-f
 enum-known-f c = search needs

@@ -1,3 +1,5 @@
+-- A part that would pass the end is cut there: by where it starts, and then by where it ends.
+-- Assumes nothing.
 use Rattle.rules.proofs.Bytes.{to-end}
 use Rattle.rules.specs.Bytes.{part}
 use denote.Ref.{now}
@@ -7,8 +9,8 @@ use mathlib.Core.Path.{_≡_, sym, _∙_}
 use Prim.Native.Nat.{_≤_, _+_, _-_}
 use native.Mathlib.Omega.{arith}
 use borrow.Author.Needs.{needs}
-use Rattle.fields.proofs.found.part_of.Statement.{statement}
-use Rattle.fields.proofs.found.part_of.Tie as tie
+use Rattle.found.proofs.part_of.Statement.{statement}
+use Rattle.found.proofs.part_of.Tie as tie
 
 sub-result : tie.Need-sub-result
 sub-result c = search needs

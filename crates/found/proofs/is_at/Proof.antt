@@ -1,7 +1,7 @@
 use Rattle.rules.specs.Fields.{isAt}
 use borrow.Author.Needs.{needs}
-use Rattle.fields.proofs.found.is_at.Statement.{statement}
-use Rattle.fields.proofs.found.is_at.Tie as tie
+use Rattle.found.proofs.is_at.Statement.{statement}
+use Rattle.found.proofs.is_at.Tie as tie
 
 enum-told : tie.Need-enum-told
 enum-told c = search needs

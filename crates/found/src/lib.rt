@@ -5,12 +5,14 @@ ghost use Rattle.rules.specs.Bytes.{part};
 ghost use Rattle.rules.specs.Region.{lookup};
 ghost use Rattle.rules.specs.Fields.{isAt, numberIn, nestIn};
 ghost use Rattle.tlv.specs.Index.{Indexed};
+ghost use Rattle.rules.specs.Limits.{fieldTypes};
+use rules::FIELD_TYPES;
 use rules::Found;
 use tlv::reader;
 
 // What the region holds of a type, at a width; width 0 is a nest, of any length.
-pub fn found(s: &[u8], places: &[usize; 44], t: u32, width: u8) -> Found
-    requires { ⌜ (Indexed (now s) (now places)) × (t < 44) ⌝ }
+pub fn found(s: &[u8], places: &[usize; FIELD_TYPES], t: u32, width: u8) -> Found
+    requires { ⌜ (Indexed (now s) (now places)) × (t < fieldTypes) ⌝ }
     ensures { λ r. ⌜ r ≡ lookup (now (s .entry)) t width ⌝ }
 {
     let place = places[t as usize];
