@@ -1,8 +1,9 @@
--- A number spelled from its last digit on, and texts written one after another.
+-- A number spelled from its last digit on, and texts written one after another: what two writings put is
+-- one writing of both (`splice-on`), and a number has twenty digits at most.
 -- Assumes nothing.
 use Prim.Native.Nat.{ℕ, zero, suc, _+_, _-_, _*_, _/_, _%_, _≤_, _<_, _^_, min}
 use mathlib.Core.Path.{_≡_, refl, sym, ap, _∙_}
-use mathlib.Core.List.{List, [], _∷_, _++_, map, append-assoc, append-nil}
+use mathlib.Core.List.{List, [], _∷_, _++_, append-assoc, append-nil}
 use native.Mathlib.Omega.{arith}
 use native.Mathlib.Nat.{pow-suc}
 use lib.ListN.{length, take, drop, set, replicate, length-append, length-set, length-drop, length-take, length-map}
@@ -142,7 +143,7 @@ fault-put answer at p q w =
     puts-same 160 (append-assoc (item wordRefused answer) (32 ∷ []) (line wordLine at)) (simp length-append (omega arith)) b
 
 pub progress-put : {s t u v w o : List ℕ} {a b c d r x₁ x₂ x₃ x₄ x₅ : ℕ} (p : Rule)
-    → Puts a t 0 (line wordPorts (p .ports)) s x₁
+    → Puts a t 0 (line wordPorts (p .terms .ports)) s x₁
     → Puts b u a (line wordLines (p .records)) t x₂
     → Puts c v b (line wordCharged (p .charged)) u x₃
     → Puts d w c (line wordFlows (length (p .tables .flows))) v x₄
@@ -150,7 +151,7 @@ pub progress-put : {s t u v w o : List ℕ} {a b c d r x₁ x₂ x₃ x₄ x₅ 
     → Puts r o 0 (report (Replays p)) s 160
 unfolding report
 progress-put p l₁ l₂ l₃ l₄ l₅ =
-    let e₁ = line-short wordPorts (p .ports) in
+    let e₁ = line-short wordPorts (p .terms .ports) in
     let e₂ = line-short wordLines (p .records) in
     let e₃ = line-short wordCharged (p .charged) in
     let e₄ = line-short wordFlows (length (p .tables .flows)) in

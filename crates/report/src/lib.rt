@@ -2,6 +2,10 @@
 use journal::put_bytes;
 use replaying::reader::Progress;
 use replaying::replay::Replayed;
+use rules::FlowRows;
+use rules::GroupHeads;
+use rules::GroupMembers;
+use rules::MAX_MEMBERS;
 ghost use mathlib.Core.Path.{_≡_};
 ghost use Prim.Native.Nat.{_+_, _≤_};
 ghost use lib.ListN.{length};
@@ -71,22 +75,22 @@ fn put_line(out: &mut [u8], at: usize, word: &[u8], n: u64) -> usize
 fn live_flows(count: usize, flows: &[[u32; 16]]) -> u64
     ensures { λ r. ⌜ r ≡ length (liveFlows count (now (flows .entry))) ⌝ }
 {
-    wire::least(count, flows.len()) as u64
+    numbers::min(count, flows.len()) as u64
 }
 
-fn live_groups(count: usize, heads: &[[u32; 3]], members: &[[u16; 62]]) -> u64
+fn live_groups(count: usize, heads: &[[u32; 3]], members: &[[u16; MAX_MEMBERS]]) -> u64
     ensures { λ r. ⌜ r ≡ length (liveGroups count (now (heads .entry)) (now (members .entry))) ⌝ }
 {
-    wire::least(count, wire::least(heads.len(), members.len())) as u64
+    numbers::min(count, numbers::min(heads.len(), members.len())) as u64
 }
 
 // The five lines.
 fn put_progress(
     out: &mut [u8],
     p: Progress,
-    flows: &[[u32; 16]; 256],
-    heads: &[[u32; 3]; 128],
-    members: &[[u16; 62]; 128],
+    flows: &FlowRows,
+    heads: &GroupHeads,
+    members: &GroupMembers,
 ) -> usize
     requires { ⌜ 160 ≤ length (now out) ⌝ }
     ensures { λ r. ⌜ Puts r (now (out .exit)) 0 (Journal·report (Replays (progressOf p (arrays (now (flows .entry)) (now (heads .entry)) (now (members .entry)))))) (now (out .entry)) 160 ⌝ }
@@ -94,7 +98,7 @@ fn put_progress(
     let counts = p.counts;
     let live = live_flows(counts.flows, flows);
     let groups = live_groups(counts.groups, heads, members);
-    let a = put_line(out, 0, b"ports", p.ports as u64);
+    let a = put_line(out, 0, b"ports", p.terms.ports as u64);
     let b = put_line(out, a, b"lines", p.records);
     let c = put_line(out, b, b"charged", p.charged);
     let d = put_line(out, c, b"flows", live);
@@ -115,9 +119,9 @@ fn put_fault(out: &mut [u8], answer: u64, at: u64) -> usize
 pub fn report(
     out: &mut [u8; 160],
     q: Replayed,
-    flows: &[[u32; 16]; 256],
-    heads: &[[u32; 3]; 128],
-    members: &[[u16; 62]; 128],
+    flows: &FlowRows,
+    heads: &GroupHeads,
+    members: &GroupMembers,
 ) -> usize
     ensures { λ r. ⌜ Puts r (now (out .exit)) 0 (Journal·report (resultOf q (arrays (now (flows .entry)) (now (heads .entry)) (now (members .entry))))) (now (out .entry)) 160 ⌝ }
     ensures { λ r. ⌜ Front r (now (out .exit)) ⌝ }

@@ -6,6 +6,7 @@ use mathlib.Core.List.{List}
 use lib.ListN.{length}
 use lib.Dec.{eqb}
 use Rattle.rules.specs.Choose.{choose}
+use Rattle.rules.specs.Limits.{maxPayload}
 use Rattle.rules.specs.Answers.{code}
 use Rattle.rules.specs.Bytes.{part}
 use Rattle.rules.specs.Descriptor.{Fetched, fetch}
@@ -24,6 +25,6 @@ handed s memory = choose (eqb (code (s .status)) 0) (Payload (payloadOf s memory
 pub record Fetches (r : Slot) (memory : List ℕ) (d : Descriptor) : Type 0 where
   pub fetched : fetch memory d ≡ handed r memory
   pub fits : r .start + r .size ≤ length memory
-  pub short : r .size ≤ 4096
+  pub short : r .size ≤ maxPayload
   -- a fault hands over no bytes
   pub empty : (eqb (code (r .status)) 0 ≡ false) → r .size ≡ 0

@@ -1,5 +1,5 @@
 use native.Mathlib.Omega.{arith}
-use Rattle.rules.specs.Tables.{arrays, tablesOf}
+use Rattle.rules.specs.Tables.{tablesOf}
 use Rattle.replaying.specs.Reading.{progressOf}
 use Rattle.report.proofs.Reporting.{progress-put}
 use borrow.Author.Needs.{needs}

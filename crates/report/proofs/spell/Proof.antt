@@ -1,3 +1,4 @@
+-- The digits behind a position are there, and those of the rest are left (`Spelling`); the rest gets smaller.
 use Rattle.report.proofs.Reporting.{Spelling, spell-starts, spell-goes-on, spell-ends}
 use borrow.Author.Needs.{needs}
 use Rattle.report.proofs.spell.Statement.{statement}
