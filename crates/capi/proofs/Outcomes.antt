@@ -9,7 +9,9 @@ use native.Mathlib.Omega.{arith}
 use borrow.Author.Tests.{eq-eqb, ne-eqb, lt-ltb, le-ltb}
 use Rattle.rules.specs.Answers.{number}
 use Rattle.rules.specs.Choose.{choose}
+use Rattle.rules.specs.Members.{elem}
 use Rattle.rules.specs.Tables.{Arrays}
+use Rattle.rules.specs.Journal.{completion}
 use Rattle.rules.specs.Switch.{Switch, Borrowed, Result, switchOf, unchanged, unlessRefused, readEffect, writeEffect, linked, processEffect, framed, headed, refusal, effect, step, freshRefusal}
 use Rattle.rules.specs.declared.Device.{Device}
 use Rattle.rules.specs.declared.Request.{Request}
@@ -20,7 +22,7 @@ use Rattle.device.specs.declared.Called.{Called}
 use Rattle.device.specs.declared.Made.{Made}
 use Rattle.words.specs.Words.{deviceIn}
 use Rattle.capi.specs.Asking.{askRefusal, requestOf, asked}
-use Rattle.capi.specs.Outcome.{Outcome, Stored, FreshOutcome, numbersOf, bitOf, five}
+use Rattle.capi.specs.Outcome.{Outcome, Stored, FreshOutcome, numbersOf, toldIn, bitOf, five}
 
 -- ---- What a kind of call gives
 
@@ -31,16 +33,16 @@ either P false p q = q
 
 -- of the five numbers those that the kind of call gives, and 0 for the others
 abbrev pub givenBy : Request → Result → List ℕ
-givenBy (Read offset width) of = five (of .value) 0 0 0 0
-givenBy (Write offset width value) of = five 0 (bitOf (of .interrupt)) 0 0 0
+givenBy (Read offset width) of = five (of .told .value) 0 0 0 0
+givenBy (Write offset width value) of = five 0 (bitOf (elem 0 (of .told .vectors))) 0 0 0
 givenBy (Link port up) of = five 0 0 0 0 0
-givenBy Process of = five 0 (bitOf (of .interrupt)) (of .completed) (of .length) 0
-givenBy (Frame port) of = five 0 0 0 0 (of .outputs)
-givenBy Header of = five 0 0 0 (of .length) 0
+givenBy Process of = five 0 (bitOf (elem 0 (of .told .vectors))) (of .told .completed) (of .told .written) 0
+givenBy (Frame port) of = five 0 0 0 0 (of .told .outputs)
+givenBy Header of = five 0 0 0 (of .told .written) 0
 
 module _ (s : Switch) (x : Borrowed) where
   done-gives : (q : Request) → givenBy q (effect s x q) ≡ numbersOf (effect s x q)
-  unfolding effect readEffect writeEffect linked processEffect framed headed numbersOf bitOf
+  unfolding effect readEffect writeEffect linked processEffect framed headed numbersOf toldIn bitOf elem
   done-gives (Read offset width) = refl
   done-gives (Write offset width value) = refl
   done-gives (Link port up) = refl
@@ -49,7 +51,7 @@ module _ (s : Switch) (x : Borrowed) where
   done-gives Header = refl
 
   refused-gives : (q : Request) (n : ℕ) → givenBy q (unchanged s x n) ≡ numbersOf (unchanged s x n)
-  unfolding unchanged numbersOf bitOf
+  unfolding unchanged numbersOf toldIn bitOf elem
   refused-gives (Read offset width) n = refl
   refused-gives (Write offset width value) n = refl
   refused-gives (Link port up) n = refl
@@ -72,10 +74,10 @@ module _ (s : Switch) (x : Borrowed) where
   done-answers Header = refl
 
   -- a refused call completes nothing
-  nothing-completed : (q : Request) → (step s x q .answer ≡ 0 → ⊥) → step s x q .completed ≡ 0
+  nothing-completed : (q : Request) → (step s x q .answer ≡ 0 → ⊥) → step s x q .told .completed ≡ 0
   unfolding step unlessRefused unchanged
   nothing-completed q =
-      either (λ of. (of .answer ≡ 0 → ⊥) → of .completed ≡ 0) (eqb (refusal s x q) 0) (λ n. absurd (n (done-answers q))) (λ n. refl)
+      either (λ of. (of .answer ≡ 0 → ⊥) → of .told .completed ≡ 0) (eqb (refusal s x q) 0) (λ n. absurd (n (done-answers q))) (λ n. refl)
 
   -- a read, a frame and a header leave the switch
   stays : (q : Request) → effect s x q .switch ≡ s → step s x q .switch ≡ s
@@ -100,7 +102,8 @@ module _ (w : List ℕ) (d : Device) (a : Arrays) (x : Borrowed) (q : Request) (
     (o : device.Outcome r d a a′ memory buffer list (step (switchOf d a) x q)) where
   -- no place changes where the call is refused
   places-stay : (step (switchOf d a) x q .answer ≡ 0 → ⊥) → a′ ≡ a
-  places-stay n = o .places-kept (λ e. absurd (let y : _≡_ {A = ℕ} 0 0x8000 = sym (nothing-completed _ x q n) ∙ e in omega arith))
+  unfolding completion
+  places-stay n = o .places-kept (λ e. absurd (let y = sym (nothing-completed _ x q n) ∙ e in omega arith))
 
   -- the words hold the device after it, or are as they were
   pub stored : {answer : ℕ} {w′ out : List ℕ} → out ≡ givenBy q (step (switchOf d a) x q) → Stored answer (r .answer) (r .device) w w′
@@ -141,7 +144,7 @@ no-kind kind b n0 n1 n2 n3 n4 n5 = rw (lt-ltb 5 kind (omega arith))
 
 module _ (w : List ℕ) (a : Arrays) (x : Borrowed) (kind m b c : ℕ) where
   pub refused : askRefusal kind b ≡ 2 → Outcome 2 w w a a (five 0 0 0 0 0) (x .memory) (x .buffer) (x .list) (asked (switchOf (deviceIn w) a) x kind m b c)
-  unfolding asked unlessRefused unchanged numbersOf bitOf
+  unfolding asked unlessRefused unchanged numbersOf toldIn bitOf elem
   refused e =
       rw e
       (record { answer-is = refl; out-is = refl; memory-is = refl; buffer-is = refl; list-is = refl; switch-is = refl; kept = λ y. (refl, refl); places-kept = λ y. refl })

@@ -5,24 +5,32 @@ use mathlib.Core.Path.{_≡_}
 use mathlib.Core.List.{List, [], _∷_}
 use mir.Syntax.{w16, w32, w64, tyInt, tyArray}
 use prog.Memory.{size}
+use Rattle.rules.specs.Limits.{maxPorts, maxFlows, maxGroups}
 use Rattle.rules.specs.Answers.{number}
 use Rattle.rules.specs.Choose.{choose}
+use Rattle.rules.specs.Members.{elem}
 use Rattle.rules.specs.Tables.{Arrays, freshArrays}
+use Rattle.rules.specs.Journal.{completion}
+use Rattle.rules.specs.Told.{Told}
 use Rattle.rules.specs.Switch.{Result, switchOf, freshRefusal, freshDevice}
 use Rattle.rules.specs.declared.Answer.{Answer}
+use Rattle.rules.specs.declared.Status.the-variants.{Ok}
 use Rattle.rules.specs.declared.Device.{Device}
 use Rattle.words.specs.Words.{deviceIn}
 
 unfoldable pub bitOf : Bool → ℕ
 bitOf b = choose b 1 0
 
--- the five numbers that a call gives
+-- the five numbers that a call gives: what it tells, where of the vectors there is one, 0
 abbrev pub five : ℕ → ℕ → ℕ → ℕ → ℕ → List ℕ
 five value raised completed bytes outputs = value ∷ raised ∷ completed ∷ bytes ∷ outputs ∷ []
 
+unfoldable pub toldIn : Told → List ℕ
+toldIn t = five (t .value) (bitOf (elem 0 (t .vectors))) (t .completed) (t .written) (t .outputs)
+
 -- a refused call has 0 in each
 unfoldable pub numbersOf : Result → List ℕ
-numbersOf of = five (of .value) (bitOf (of .interrupt)) (of .completed) (of .length) (of .outputs)
+numbersOf of = toldIn (of .told)
 
 -- of a call: its answer; the words and the arrays before and after it; the five numbers, 0 where the function does not give one; what
 -- guest memory, buffer and list hold after it; and the rules' result of it
@@ -36,7 +44,7 @@ pub record Outcome (answer : ℕ) (w w′ : List ℕ) (a a′ : Arrays) (out mem
   -- a refused call leaves every bit of what the host holds
   pub kept : (of .answer ≡ 0 → ⊥) → (w′ ≡ w) × (a′ ≡ a)
   -- and so does every call of its tables, unless it completed a command OK
-  pub places-kept : (of .completed ≡ 0x8000 → ⊥) → a′ ≡ a
+  pub places-kept : (of .told .completed ≡ completion Ok → ⊥) → a′ ≡ a
 
 -- a device stored where its call was done; refused, no word changes
 pub record Stored (answer : ℕ) (given : Answer) (d : Device) (w w′ : List ℕ) : Type 0 where
@@ -54,6 +62,6 @@ pub record FreshOutcome (answer : ℕ) (w w′ : List ℕ) (a a′ : Arrays) (po
 unfoldable pub partsSize : ℕ
 partsSize =
     size (tyArray (tyInt w64) 16)
-    + size (tyArray (tyArray (tyInt w32) 16) 256)
-    + size (tyArray (tyArray (tyInt w32) 3) 128)
-    + size (tyArray (tyArray (tyInt w16) 62) 128)
+    + size (tyArray (tyArray (tyInt w32) 16) maxFlows)
+    + size (tyArray (tyArray (tyInt w32) 3) maxGroups)
+    + size (tyArray (tyArray (tyInt w16) maxPorts) maxGroups)

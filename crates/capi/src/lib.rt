@@ -5,6 +5,9 @@
 
 use rules::Answer;
 use rules::Device;
+use rules::FlowRows;
+use rules::GroupHeads;
+use rules::GroupMembers;
 ghost use mathlib.Core.Path.{_≡_};
 ghost use mathlib.Core.List.{List};
 ghost use Prim.Native.Nat.{ℕ};
@@ -55,9 +58,9 @@ pub extern "C" fn rocker_size() -> u64
 #[no_mangle]
 pub extern "C" fn rocker_fresh_parts(
     registers: &mut [u64; 16],
-    flows: &mut [[u32; 16]; 256],
-    heads: &mut [[u32; 3]; 128],
-    members: &mut [[u16; 62]; 128],
+    flows: &mut FlowRows,
+    heads: &mut GroupHeads,
+    members: &mut GroupMembers,
     ports: u64,
     switch_id: u64,
 ) -> u32
@@ -119,9 +122,9 @@ pub extern "C" fn rocker_link_parts(registers: &mut [u64; 16], port: u64, up: u6
 #[no_mangle]
 pub extern "C" fn rocker_process_parts(
     registers: &mut [u64; 16],
-    flows: &mut [[u32; 16]; 256],
-    heads: &mut [[u32; 3]; 128],
-    members: &mut [[u16; 62]; 128],
+    flows: &mut FlowRows,
+    heads: &mut GroupHeads,
+    members: &mut GroupMembers,
     memory: &mut [u8],
     buffer: &mut [u8],
     raised: &mut u64,
@@ -133,10 +136,10 @@ pub extern "C" fn rocker_process_parts(
     let d = words::device_of(*registers);
     let r = device::process(d, memory, buffer, flows, heads, members);
     let completion = r.completed as u64;
-    let length = r.length as u64;
+    let written = r.written as u64;
     *raised = bit_of(r.interrupt);
     *completed = completion;
-    *bytes = length;
+    *bytes = written;
     let answer = r.answer;
     let after = r.device;
     store(registers, answer, after)
@@ -146,9 +149,9 @@ pub extern "C" fn rocker_process_parts(
 #[no_mangle]
 pub extern "C" fn rocker_frame_parts(
     registers: &[u64; 16],
-    flows: &[[u32; 16]; 256],
-    heads: &[[u32; 3]; 128],
-    members: &[[u16; 62]; 128],
+    flows: &FlowRows,
+    heads: &GroupHeads,
+    members: &GroupMembers,
     port: u64,
     frame: &[u8],
     list: &mut [u16],
@@ -173,7 +176,7 @@ pub extern "C" fn rocker_header_parts(
     ensures { λ r. ⌜ ((a : Arrays) (memory frame list : List ℕ) → Outcome r (now (registers .entry)) (now (registers .entry)) a a (five 0 0 0 (now (bytes .exit)) 0) memory (now (buffer .exit)) list (step (switchOf (deviceIn (now (registers .entry))) a) (borrowed memory frame (now (buffer .entry)) list) Header)) ⌝ }
 {
     let r = device::header(words::device_of(*registers), buffer);
-    *bytes = r.length as u64;
+    *bytes = r.written as u64;
     let answer = r.answer;
     answer_of(answer)
 }
@@ -182,9 +185,9 @@ pub extern "C" fn rocker_header_parts(
 
 fn process_into(
     registers: &mut [u64; 16],
-    flows: &mut [[u32; 16]; 256],
-    heads: &mut [[u32; 3]; 128],
-    members: &mut [[u16; 62]; 128],
+    flows: &mut FlowRows,
+    heads: &mut GroupHeads,
+    members: &mut GroupMembers,
     memory: &mut [u8],
     buffer: &mut [u8],
     out: &mut [u64; 5],
@@ -211,9 +214,9 @@ fn process_into(
 
 fn frame_into(
     registers: &[u64; 16],
-    flows: &[[u32; 16]; 256],
-    heads: &[[u32; 3]; 128],
-    members: &[[u16; 62]; 128],
+    flows: &FlowRows,
+    heads: &GroupHeads,
+    members: &GroupMembers,
     port: u64,
     frame: &[u8],
     list: &mut [u16],
@@ -241,9 +244,9 @@ fn frame_into(
 #[no_mangle]
 pub extern "C" fn rocker_call_parts(
     registers: &mut [u64; 16],
-    flows: &mut [[u32; 16]; 256],
-    heads: &mut [[u32; 3]; 128],
-    members: &mut [[u16; 62]; 128],
+    flows: &mut FlowRows,
+    heads: &mut GroupHeads,
+    members: &mut GroupMembers,
     kind: u64,
     a: u64,
     b: u64,

@@ -2,9 +2,9 @@
 -- Assumes nothing.
 use Prim.Native.Nat.{ℕ, _≤_, _<_}
 use mathlib.Core.Bool.{Bool, true, false}
-use mathlib.Core.Path.{_≡_, refl, sym, _∙_}
-use mathlib.Core.List.{List}
-use lib.Dec.{ltb, eqb}
+use mathlib.Core.Path.{_≡_, refl, sym, ap, _∙_}
+use mathlib.Core.List.{List, [], nil≢cons}
+use lib.Dec.{ltb}
 use native.Mathlib.Omega.{arith}
 use lib.ListN.{length}
 use borrow.Author.Tests.{lt-ltb, le-ltb}
@@ -12,9 +12,11 @@ use Rattle.rules.specs.Choose.{choose}
 use Rattle.rules.specs.Answers.{number}
 use Rattle.rules.specs.Places.{live}
 use Rattle.rules.specs.Tables.{Arrays, tablesOf, emptyTables, noneLive, freshArrays}
+use Rattle.rules.specs.Members.{elem}
 use Rattle.rules.specs.Journal.{header}
-use Rattle.rules.specs.Registers.{accessRefusal, access, readValue, readRefusal, read, taken, sets, writeTo, unlessRefused, write, withLinks, linkEffect, freshRegisters}
-use Rattle.rules.specs.Switch.{Borrowed, Result, switchOf, unchanged, readEffect, writeEffect, linkRefusal, linked, headerRefusal, headed, refusal, effect, step, freshRefusal, freshDevice}
+use Rattle.rules.specs.Told.{Told}
+use Rattle.rules.specs.Registers.{accessRefusal, access, readValue, readRefusal, read, taken, sets, writeTo, unlessRefused, write, withLinks, linkEffect, freshRegisters, raised, termsOf}
+use Rattle.rules.specs.Switch.{Borrowed, Result, switchOf, unchanged, readEffect, writeEffect, linkRefusal, linked, bufferRefusal, headed, refusal, effect, step, freshRefusal, freshDevice}
 use Rattle.rules.specs.declared.Answer.{Answer}
 use Rattle.rules.specs.declared.Answer.the-variants.{Done, BufferShort}
 use Rattle.rules.specs.declared.Access.{Access}
@@ -40,15 +42,39 @@ module _ (d : Device) (a : Arrays) (b : Borrowed) (q : Request) where
   -- refused: the answer and nothing else
   pub outcome-refused : (n : Answer) → number n ≡ refusal (switchOf d a) b q → (refusal (switchOf d a) b q ≡ 0 → ⊥)
       → Outcome (quiet d n) d a a (b .memory) (b .buffer) (b .list) (step (switchOf d a) b q)
-  unfolding unchanged quiet
+  unfolding unchanged quiet raised
   outcome-refused n e z =
       rw (refused (switchOf d a) b q z)
-      (record { answer-is = e; value-is = refl; interrupt-is = refl; completed-is = refl; length-is = refl; outputs-are = refl; memory-is = refl; buffer-is = refl; list-is = refl; switch-is = refl; device-kept = λ z. refl; places-kept = λ z. refl })
+      (record { answer-is = e; told-is = refl; memory-is = refl; buffer-is = refl; list-is = refl; switch-is = refl; device-kept = λ z. refl; places-kept = λ z. refl })
 
   -- done: the effect
   pub outcome-done : (r : Called) (a′ : Arrays) (memory buffer list : List ℕ) → refusal (switchOf d a) b q ≡ 0
       → Outcome r d a a′ memory buffer list (effect (switchOf d a) b q) → Outcome r d a a′ memory buffer list (step (switchOf d a) b q)
   outcome-done r a′ memory buffer list e o = rw (accepted (switchOf d a) b q e) o
+
+-- ---- What is told, part by part
+
+vector-told : (i : Bool) → elem 0 (raised 0 i) ≡ i
+unfolding raised elem
+vector-told true = refl
+vector-told false = refl
+
+module _ {r : Called} {d : Device} {a a′ : Arrays} {memory buffer list : List ℕ} {of : Result} (o : Outcome r d a a′ memory buffer list of) where
+  pub value-told : r .value ≡ of .told .value
+  value-told = ap (λ (t : Told). t .value) (o .told-is)
+
+  -- the vector of the code is 0
+  pub raised-told : r .interrupt ≡ elem 0 (of .told .vectors)
+  raised-told = sym (vector-told (r .interrupt)) ∙ ap (λ (t : Told). elem 0 (t .vectors)) (o .told-is)
+
+  pub completed-told : r .completed ≡ of .told .completed
+  completed-told = ap (λ (t : Told). t .completed) (o .told-is)
+
+  pub written-told : r .written ≡ of .told .written
+  written-told = ap (λ (t : Told). t .written) (o .told-is)
+
+  pub outputs-told : r .outputs ≡ of .told .outputs
+  outputs-told = ap (λ (t : Told). t .outputs) (o .told-is)
 
 -- ---- Read
 
@@ -62,16 +88,16 @@ read-refused d (Upper r) n = absurd (n refl)
 
 -- a read's result: the answer, the value, and nothing else
 unfoldable pub withValue : Called → ℕ → Called
-withValue r v = record { answer = r .answer; value = v; interrupt = r .interrupt; completed = r .completed; length = r .length; outputs = r .outputs; device = r .device }
+withValue r v = record { answer = r .answer; value = v; interrupt = r .interrupt; completed = r .completed; written = r .written; outputs = r .outputs; device = r .device }
 
 module _ (d : Device) (a : Arrays) (b : Borrowed) where
   pub read-outcome : (offset width : ℕ) (x : Reading) → Reads x (d .registers) offset width
       → Outcome (withValue (quiet d (x .answer)) (x .value)) d a a (b .memory) (b .buffer) (b .list) (step (switchOf d a) b (Read offset width))
-  unfolding withValue quiet refusal effect readEffect switchOf
+  unfolding withValue quiet refusal effect readEffect switchOf raised
   read-outcome offset width x h =
       by-eq (readRefusal offset width) 0
       (λ e p. outcome-done d a b (Read offset width) _ _ _ _ _ e
-      (record { answer-is = h .answer ∙ e; value-is = h .value; interrupt-is = refl; completed-is = refl; length-is = refl; outputs-are = refl; memory-is = refl; buffer-is = refl; list-is = refl; switch-is = refl; device-kept = λ z. refl; places-kept = λ z. refl }))
+      (record { answer-is = h .answer ∙ e; told-is = rw (h .value); memory-is = refl; buffer-is = refl; list-is = refl; switch-is = refl; device-kept = λ z. refl; places-kept = λ z. refl }))
       (λ n p. let v : x .value ≡ 0 = h .value ∙ unfold read readRefusal in read-refused (d .registers) (access offset width) n in
       rw v (unfold quiet in outcome-refused d a b (Read offset width) (x .answer) (h .answer) n))
 
@@ -81,12 +107,12 @@ module _ (d : Device) (a : Arrays) (b : Borrowed) where
       → Changes x (linkRefusal (d .registers) port) (withLinks (d .registers) (linkEffect (d .registers .links) port up)) (d .registers)
       → e ≡ record { registers = x .registers; counts = d .counts }
       → Outcome (quiet e (x .answer)) d a a (b .memory) (b .buffer) (b .list) (step (switchOf d a) b (Link port up))
-  unfolding refusal effect linked switchOf quiet
+  unfolding refusal effect linked switchOf quiet raised
   link-outcome e port up x h k =
       by-eq (linkRefusal (d .registers) port) 0
       (λ z p. let r : x .registers ≡ withLinks (d .registers) (linkEffect (d .registers .links) port up) = h .registers ∙ rw p in
       outcome-done d a b (Link port up) _ _ _ _ _ z
-      (record { answer-is = h .answer ∙ z; value-is = refl; interrupt-is = refl; completed-is = refl; length-is = refl; outputs-are = refl; memory-is = refl; buffer-is = refl; list-is = refl; switch-is = rw (k, r); device-kept = λ n. absurd (n refl); places-kept = λ n. refl }))
+      (record { answer-is = h .answer ∙ z; told-is = refl; memory-is = refl; buffer-is = refl; list-is = refl; switch-is = rw (k, r); device-kept = λ n. absurd (n refl); places-kept = λ n. refl }))
       (λ n p. let r : x .registers ≡ d .registers = h .registers ∙ rw p in
       rw (k, r) (unfold quiet in outcome-refused d a b (Link port up) (x .answer) (h .answer) n))
 
@@ -111,9 +137,15 @@ write-kept d offset width v n =
     let w = writeTo d (access offset width) (taken width v) in
     by-eq (w .refusal) 0 (λ e p. absurd (n (rw p e))) (λ ne p. rw p (unfold sets in refl))
 
+-- no vector was raised
+none-raised : (i : Bool) → raised 0 i ≡ [] → i ≡ false
+unfolding raised
+none-raised true e = absurd (nil≢cons (sym e))
+none-raised false e = refl
+
 -- a write's result: the answer, the interrupt, and nothing else
 unfoldable pub withInterrupt : Called → Bool → Called
-withInterrupt r i = record { answer = r .answer; value = r .value; interrupt = i; completed = r .completed; length = r .length; outputs = r .outputs; device = r .device }
+withInterrupt r i = record { answer = r .answer; value = r .value; interrupt = i; completed = r .completed; written = r .written; outputs = r .outputs; device = r .device }
 
 -- the tables after a write: none live after a reset
 counts-after : (resets : Bool) (counts : Counts) (a : Arrays)
@@ -130,32 +162,32 @@ module _ (d : Device) (a : Arrays) (b : Borrowed) (offset width v : ℕ) (x : re
   write-outcome counts k =
       by-eq (write (d .registers) offset width v .refusal) 0
       (λ z p. outcome-done d a b (Write offset width v) _ _ _ _ _ z
-      (record { answer-is = h .answer ∙ z; value-is = refl; interrupt-is = h .interrupt; completed-is = refl; length-is = refl; outputs-are = refl; memory-is = refl; buffer-is = refl; list-is = refl; switch-is = rw (k, h .registers, counts-after (x .resets) (d .counts) a, h .resets); device-kept = λ n. absurd (n refl); places-kept = λ n. refl }))
+      (record { answer-is = h .answer ∙ z; told-is = rw (h .vectors); memory-is = refl; buffer-is = refl; list-is = refl; switch-is = rw (k, h .registers, counts-after (x .resets) (d .counts) a, h .resets); device-kept = λ n. absurd (n refl); places-kept = λ n. refl }))
       (λ n p.
       let w = write-kept (d .registers) offset width v n in
-      let i : x .interrupt ≡ false = h .interrupt ∙ rw w (unfold sets in refl) in
+      let i : x .interrupt ≡ false = none-raised (x .interrupt) (h .vectors ∙ rw w (unfold sets in refl)) in
       let y : x .resets ≡ false = h .resets ∙ rw w (unfold sets in refl) in
       let g : x .registers ≡ d .registers = h .registers ∙ rw w (unfold sets in refl) in
       rw (i, k, y, g) (unfold quiet in outcome-refused d a b (Write offset width v) (x .answer) (h .answer) n))
 
 -- ---- Header
 
-unfoldable pub withLength : Called → ℕ → Called
-withLength r n = record { answer = r .answer; value = r .value; interrupt = r .interrupt; completed = r .completed; length = n; outputs = r .outputs; device = r .device }
+unfoldable pub withWritten : Called → ℕ → Called
+withWritten r n = record { answer = r .answer; value = r .value; interrupt = r .interrupt; completed = r .completed; written = n; outputs = r .outputs; device = r .device }
 
 module _ (d : Device) (a : Arrays) (memory frame buffer list : List ℕ) where
   pub header-short : length buffer < 6
       → Outcome (quiet d BufferShort) d a a memory buffer list (step (switchOf d a) (borrowed memory frame buffer list) Header)
-  unfolding borrowed refusal headerRefusal number
+  unfolding borrowed refusal bufferRefusal number
   header-short h =
       let e : refusal (switchOf d a) (borrowed memory frame buffer list) Header ≡ 6 = rw (lt-ltb _ _ h) in
       outcome-refused d a (borrowed memory frame buffer list) Header BufferShort (sym e) (λ z. absurd (let y : _≡_ {A = ℕ} 6 0 = sym e ∙ z in omega arith))
 
-  pub header-done : (n : ℕ) (after : List ℕ) → 6 ≤ length buffer → Writes n after (header (d .registers .ports)) buffer
-      → Outcome (withLength (quiet d Done) n) d a a memory after list (step (switchOf d a) (borrowed memory frame buffer list) Header)
-  unfolding borrowed refusal headerRefusal withLength quiet effect headed switchOf number
+  pub header-done : (n : ℕ) (after : List ℕ) → 6 ≤ length buffer → Writes n after (header (termsOf (d .registers))) buffer
+      → Outcome (withWritten (quiet d Done) n) d a a memory after list (step (switchOf d a) (borrowed memory frame buffer list) Header)
+  unfolding borrowed refusal bufferRefusal withWritten quiet effect headed switchOf number raised
   header-done n after h w =
-      let t : ltb (length buffer) (length (header (d .registers .ports))) ≡ false = rw length-header (le-ltb _ _ h) in
+      let t : ltb (length buffer) (length (header (termsOf (d .registers)))) ≡ false = rw length-header (le-ltb _ _ h) in
       let e : refusal (switchOf d a) (borrowed memory frame buffer list) Header ≡ 0 = rw (le-ltb _ _ h) in
       outcome-done d a (borrowed memory frame buffer list) Header _ _ _ _ _ e
-      (record { answer-is = refl; value-is = refl; interrupt-is = refl; completed-is = refl; length-is = w .length-is ∙ rw (t, length-header); outputs-are = refl; memory-is = refl; buffer-is = w .buffer-is ∙ rw t; list-is = refl; switch-is = refl; device-kept = λ z. refl; places-kept = λ z. refl })
+      (record { answer-is = refl; told-is = rw (w .length-is, t, length-header); memory-is = refl; buffer-is = w .buffer-is ∙ rw t; list-is = refl; switch-is = refl; device-kept = λ z. refl; places-kept = λ z. refl })

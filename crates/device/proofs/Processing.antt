@@ -6,12 +6,13 @@ use mathlib.Core.Path.{_≡_, refl, sym, ap, _∙_}
 use mathlib.Core.List.{List}
 use native.Mathlib.Omega.{arith}
 use lib.ListN.{length}
-use lib.Dec.{ltb, eqb}
+use lib.Dec.{ltb}
 use borrow.Author.Tests.{lt-ltb, eq-eqb, eqb-true}
 use Rattle.rules.specs.Choose.{choose}
-use Rattle.rules.specs.Answers.{number, code}
-use Rattle.rules.specs.Ring.{completeEffect, completeInterrupt}
-use Rattle.rules.specs.Registers.{withRing}
+use Rattle.rules.specs.Answers.{number}
+use Rattle.rules.specs.Limits.{maxCredits}
+use Rattle.rules.specs.Ring.{completeEffect, completeRaises}
+use Rattle.rules.specs.Registers.{commandRing, withCommandRing, termsOf}
 use Rattle.rules.specs.Journal.{completion}
 use Rattle.rules.specs.Tables.{Arrays, tablesOf, carryOut}
 use Rattle.rules.specs.Switch.{Borrowed, switchOf, processEffect, refusal, effect, step}
@@ -20,7 +21,8 @@ use Rattle.rules.specs.declared.Counts.{Counts}
 use Rattle.rules.specs.declared.Decoding.{Decoding}
 use Rattle.rules.specs.declared.Device.{Device}
 use Rattle.rules.specs.declared.Request.the-variants.{Process}
-use Rattle.rules.specs.declared.Ring.{Ring}
+use Rattle.rules.specs.declared.Registers.{Registers}
+use Rattle.rules.specs.declared.Terms.{Terms}
 use Rattle.rules.specs.declared.Status.the-variants.{Ok}
 use Rattle.rules.proofs.Bytes.{splice-no-shorter}
 use Rattle.rules.proofs.Cases.{not-both}
@@ -32,38 +34,25 @@ use Rattle.slot.specs.Completing.{Prepares, Finishes}
 use Rattle.slot.specs.declared.Slot.{Slot}
 use Rattle.slot.specs.declared.Taken.{Taken}
 use Rattle.slot.proofs.Completing.{Completes, completes}
-use Rattle.device.specs.Outcome.{Outcome, borrowed, quiet}
+use Rattle.device.specs.Outcome.{Outcome, toldBy, borrowed, quiet}
 use Rattle.device.specs.declared.Called.{Called}
 use Rattle.device.proofs.Outcome.{outcome-refused, outcome-done}
 
 -- the result of completing a slot
-unfoldable pub result : Device → Counts → Slot → ℕ → Bool → Ring → Called
-result d counts x completed raised next =
+unfoldable pub result : Counts → Slot → ℕ → Bool → Registers → Called
+result counts x completed raises next =
     record {
       answer = Done;
       value = 0;
-      interrupt = raised;
+      interrupt = raises;
       completed = completed;
-      length = 6 + x .size;
+      written = 6 + x .size;
       outputs = 0;
-      device = record {
-        registers = record {
-          «switch_id» = d .registers .«switch_id»;
-          links = d .registers .links;
-          enable = d .registers .enable;
-          «test_reg64» = d .registers .«test_reg64»;
-          ports = d .registers .ports;
-          «enable_latch» = d .registers .«enable_latch»;
-          «test_latch» = d .registers .«test_latch»;
-          «test_reg» = d .registers .«test_reg»;
-          ring = next;
-        };
-        counts = counts;
-      };
+      device = record { registers = next; counts = counts };
     }
 
 -- the copy of the payload leaves the buffer's length
-pub still-fits : {q : Decoding} {x : Slot} {ports n : ℕ} {memory buffer between : List ℕ} → Prepares q x ports memory buffer between
+pub still-fits : {q : Decoding} {x : Slot} {terms : Terms} {n : ℕ} {memory buffer between : List ℕ} → Prepares q x terms memory buffer between
     → n ≤ length buffer → n ≤ length between
 still-fits {x = x} {memory = memory} {buffer = buffer} p h = omega (arith, ap length (p .copied), splice-no-shorter 6 (payloadOf x memory) buffer)
 
@@ -71,7 +60,7 @@ module _ (d : Device) (a : Arrays) (memory frame buffer list : List ℕ) where
   abbrev here : Borrowed
   here = borrowed memory frame buffer list
 
-  module _ (r : Taken) (t : Takes r (d .registers .ring) memory (length buffer)) where
+  module _ (r : Taken) (t : Takes r (commandRing (d .registers)) memory (length buffer)) where
     refusal-is : number (r .answer) ≡ refusal (switchOf d a) here Process
     unfolding refusal switchOf borrowed
     refusal-is = t .answer-is (switchOf d a) here refl refl refl
@@ -83,42 +72,41 @@ module _ (d : Device) (a : Arrays) (memory frame buffer list : List ℕ) where
         (λ z. not-both (sym (t .ready-is ∙ eq-eqb _ _ (refusal-is ∙ z)) ∙ n))
 
     module _ (ready : r .ready ≡ true) (q : Decoding) (x : Executed) (a′ : Arrays) (completed : ℕ) (between memory′ buffer′ : List ℕ)
-        (raised : Bool) (next : Ring)
-        (p : Prepares q (r .slot) (d .registers .ports) memory buffer between)
+        (raises : Bool) (next : Registers)
+        (p : Prepares q (r .slot) (termsOf (d .registers)) memory buffer between)
         (e : Executes x (d .counts) a a′ (carryOut (tablesOf (d .counts) a) q))
-        (f : Finishes completed (r .at) (r .slot .size) (x .status) (d .registers .ring .tail) memory memory′ between buffer′)
-        (i : raised ≡ completeInterrupt (d .registers .ring))
-        (n : next ≡ choose (ltb (d .registers .ring .credits) 65536) (completeEffect (d .registers .ring)) (d .registers .ring)) where
+        (f : Finishes completed (r .at) (r .slot .size) (x .status) (commandRing (d .registers) .tail) memory memory′ between buffer′)
+        (i : raises ≡ completeRaises (commandRing (d .registers)))
+        (n : next ≡ choose (ltb (commandRing (d .registers) .credits) maxCredits) (withCommandRing (d .registers) (completeEffect (commandRing (d .registers)))) (d .registers)) where
       done : Completes (switchOf d a) here q (r .slot .size) completed memory′ buffer′
       unfolding switchOf borrowed
       done = completes (switchOf d a) here (r .slot) (r .at) (t .taken ready) q (x .status) completed between memory′ buffer′ p (e .status-is) f
 
-      moved : next ≡ completeEffect (d .registers .ring)
+      moved : next ≡ withCommandRing (d .registers) (completeEffect (commandRing (d .registers)))
       moved = n ∙ rw (lt-ltb _ _ (t .taken ready .uncredited))
 
-      -- a status that is OK completes as 0x8000
-      ok-completes : carryOut (tablesOf (d .counts) a) q .status ≡ Ok → processEffect (switchOf d a) here .completed ≡ 0x8000
-      unfolding completion code
+      -- a status that is OK completes as such
+      ok-completes : carryOut (tablesOf (d .counts) a) q .status ≡ Ok → processEffect (switchOf d a) here .told .completed ≡ completion Ok
       ok-completes o = sym (done .completed-is) ∙ (f .completed-is ∙ rw (e .status-is ∙ o))
 
-      registers-are : result d (x .counts) (r .slot) completed raised next .device .registers ≡ processEffect (switchOf d a) here .switch .registers
-      unfolding result processEffect withRing switchOf
-      registers-are = rw moved
+      registers-are : next ≡ processEffect (switchOf d a) here .switch .registers
+      unfolding processEffect switchOf
+      registers-are = moved
 
       tables-are : tablesOf (x .counts) a′ ≡ processEffect (switchOf d a) here .switch .tables
       unfolding switchOf
       tables-are = e .tables-are ∙ done .tables-are
 
-      effect-is : Outcome (result d (x .counts) (r .slot) completed raised next) d a a′ memory′ buffer′ list (effect (switchOf d a) here Process)
+      told-as : toldBy (result (x .counts) (r .slot) completed raises next) ≡ processEffect (switchOf d a) here .told
+      unfolding result
+      told-as = rw (done .completed-is, done .length-is, i) (unfold processEffect switchOf in refl)
+
+      effect-is : Outcome (result (x .counts) (r .slot) completed raises next) d a a′ memory′ buffer′ list (effect (switchOf d a) here Process)
       unfolding effect result number switchOf
       effect-is =
           record {
             answer-is = unfold processEffect in refl;
-            value-is = unfold processEffect in refl;
-            interrupt-is = unfold processEffect switchOf in i;
-            completed-is = done .completed-is;
-            length-is = done .length-is;
-            outputs-are = unfold processEffect in refl;
+            told-is = told-as;
             memory-is = done .memory-is;
             buffer-is = done .buffer-is;
             list-is = unfold processEffect borrowed in refl;
@@ -127,7 +115,7 @@ module _ (d : Device) (a : Arrays) (memory frame buffer list : List ℕ) where
             places-kept = λ z. e .kept (λ o. z (ok-completes o)) .1;
           }
 
-      pub processed : Outcome (result d (x .counts) (r .slot) completed raised next) d a a′ memory′ buffer′ list (step (switchOf d a) here Process)
+      pub processed : Outcome (result (x .counts) (r .slot) completed raises next) d a a′ memory′ buffer′ list (step (switchOf d a) here Process)
       processed =
           outcome-done d a here Process _ a′ memory′ buffer′ list
           (sym refusal-is ∙ eqb-true _ _ (sym (t .ready-is) ∙ ready))

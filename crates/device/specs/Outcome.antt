@@ -6,22 +6,27 @@ use mathlib.Core.List.{List}
 use lib.Dec.{eqb}
 use Rattle.rules.specs.Choose.{choose}
 use Rattle.rules.specs.Answers.{number}
+use Rattle.rules.specs.Registers.{raised}
 use Rattle.rules.specs.Tables.{Arrays, freshArrays}
+use Rattle.rules.specs.Journal.{completion}
+use Rattle.rules.specs.Told.{Told}
 use Rattle.rules.specs.Switch.{Borrowed, Result, switchOf, freshRefusal, freshDevice}
 use Rattle.rules.specs.declared.Answer.{Answer}
+use Rattle.rules.specs.declared.Status.the-variants.{Ok}
 use Rattle.rules.specs.declared.Device.{Device}
 use Rattle.device.specs.declared.Called.{Called}
 use Rattle.device.specs.declared.Made.{Made}
+
+-- what a call of the code tells, as the rules have it: its one vector is 0
+abbrev pub toldBy : Called → Told
+toldBy r =
+    record { value = r .value; vectors = raised 0 (r .interrupt); completed = r .completed; written = r .written; outputs = r .outputs }
 
 -- of a call r on the device d, whose places stand in the arrays a and after it in a′: what guest memory, buffer and list hold after it,
 -- and the rules' result of it
 pub record Outcome (r : Called) (d : Device) (a a′ : Arrays) (memory buffer list : List ℕ) (of : Result) : Type 0 where
   pub answer-is : number (r .answer) ≡ of .answer
-  pub value-is : r .value ≡ of .value
-  pub interrupt-is : r .interrupt ≡ of .interrupt
-  pub completed-is : r .completed ≡ of .completed
-  pub length-is : r .length ≡ of .length
-  pub outputs-are : r .outputs ≡ of .outputs
+  pub told-is : toldBy r ≡ of .told
   pub memory-is : memory ≡ of .memory
   pub buffer-is : buffer ≡ of .buffer
   pub list-is : list ≡ of .list
@@ -29,7 +34,7 @@ pub record Outcome (r : Called) (d : Device) (a a′ : Arrays) (memory buffer li
   -- a refused call leaves every part of the device as it was
   pub device-kept : (of .answer ≡ 0 → ⊥) → r .device ≡ d
   -- unless a command completed OK, no word of either table changes. After one that did, what free places hold is left open
-  pub places-kept : (of .completed ≡ 0x8000 → ⊥) → a′ ≡ a
+  pub places-kept : (of .told .completed ≡ completion Ok → ⊥) → a′ ≡ a
 
 -- what a call borrows
 unfoldable pub borrowed : List ℕ → List ℕ → List ℕ → List ℕ → Borrowed
@@ -37,7 +42,7 @@ borrowed memory frame buffer list = record { memory = memory; frame = frame; buf
 
 -- an answer and nothing else
 unfoldable pub quiet : Device → Answer → Called
-quiet d a = record { answer = a; value = 0; interrupt = false; completed = 0; length = 0; outputs = 0; device = d }
+quiet d a = record { answer = a; value = 0; interrupt = false; completed = 0; written = 0; outputs = 0; device = d }
 
 -- a fresh device, and every word of its places 0; refused, no device, and the places as they were
 pub record Makes (r : Made) (ports id : ℕ) (a a′ : Arrays) : Type 0 where

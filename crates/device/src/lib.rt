@@ -3,27 +3,34 @@
 // in its contract: the answer, the device after it, each word of the tables and each borrowed byte.
 
 use rules::Answer;
+use rules::CURRENT_VERSION;
 use rules::Counts;
 use rules::Device;
+use rules::FlowRows;
+use rules::GroupHeads;
+use rules::GroupMembers;
 use rules::Registers;
 use rules::Request;
+use rules::Terms;
 ghost use mathlib.Core.Path.{_≡_};
 ghost use mathlib.Core.List.{List};
 ghost use Prim.Native.Nat.{ℕ};
 ghost use Rattle.rules.specs.Choose.{choose};
+ghost use Rattle.rules.specs.Registers.{termsOf};
 ghost use Rattle.rules.specs.Tables.{Arrays, arrays, noneLive};
 ghost use Rattle.rules.specs.Switch.{Borrowed, switchOf, step};
 ghost use Rattle.rules.specs.declared.Request.the-variants.{Read, Write, Link, Process, Frame, Header};
 ghost use Rattle.device.specs.Outcome.{Outcome, Makes, borrowed, quiet};
 
-// What a call gives: the answer; the value that a read gives; whether vector 0 was raised; the completion that process wrote, 0 for
-// none; how many bytes were written into the buffer, and how many outputs into the list; the device after it.
+// What a call gives: the answer; what it tells (`toldBy`), which is the value that a read gives, whether vector 0 was raised, the
+// completion that process wrote (0 for none), how many bytes were written into the buffer, and how many outputs into the list; and the
+// device after it.
 pub struct Called {
     pub answer: Answer,
     pub value: u64,
     pub interrupt: bool,
     pub completed: u16,
-    pub length: usize,
+    pub written: usize,
     pub outputs: usize,
     pub device: Device,
 }
@@ -43,7 +50,7 @@ fn answered(d: Device, answer: Answer) -> Called
         value: 0,
         interrupt: false,
         completed: 0,
-        length: 0,
+        written: 0,
         outputs: 0,
         device: d,
     }
@@ -53,9 +60,9 @@ fn answered(d: Device, answer: Answer) -> Called
 pub fn fresh(
     ports: u64,
     switch_id: u64,
-    flows: &mut [[u32; 16]; 256],
-    heads: &mut [[u32; 3]; 128],
-    members: &mut [[u16; 62]; 128],
+    flows: &mut FlowRows,
+    heads: &mut GroupHeads,
+    members: &mut GroupMembers,
 ) -> Made
     ensures { λ r. ⌜ Makes r ports «switch_id» (arrays (now (flows .entry)) (now (heads .entry)) (now (members .entry))) (arrays (now (flows .exit)) (now (heads .exit)) (now (members .exit))) ⌝ }
 {
@@ -144,6 +151,16 @@ pub fn write(d: Device, offset: u64, width: u64, value: u64) -> Called
     r
 }
 
+// What the device carries payloads out under, and writes into its journal's header.
+fn terms_of(d: Registers) -> Terms
+    ensures { λ r. ⌜ r ≡ termsOf d ⌝ }
+{
+    Terms {
+        ports: d.ports,
+        version: CURRENT_VERSION,
+    }
+}
+
 // The journal's header, to the start of the buffer.
 pub fn header(d: Device, buffer: &mut [u8]) -> Called
     ensures { λ r. ⌜ ((a : Arrays) (memory frame list : List ℕ) → Outcome r d a a memory (now (buffer .exit)) list (step (switchOf d a) (borrowed memory frame (now (buffer .entry)) list) Header)) ⌝ }
@@ -152,9 +169,9 @@ pub fn header(d: Device, buffer: &mut [u8]) -> Called
         return answered(d, Answer::BufferShort);
     }
     let regs = d.registers;
-    let n = journal::header(buffer, regs.ports);
+    let n = journal::header(buffer, terms_of(regs));
     let mut r = answered(d, Answer::Done);
-    r.length = n;
+    r.written = n;
     r
 }
 
@@ -164,35 +181,33 @@ pub fn process(
     d: Device,
     memory: &mut [u8],
     buffer: &mut [u8],
-    flows: &mut [[u32; 16]; 256],
-    heads: &mut [[u32; 3]; 128],
-    members: &mut [[u16; 62]; 128],
+    flows: &mut FlowRows,
+    heads: &mut GroupHeads,
+    members: &mut GroupMembers,
 ) -> Called
     ensures { λ r. ⌜ ((frame list : List ℕ) → Outcome r d (arrays (now (flows .entry)) (now (heads .entry)) (now (members .entry))) (arrays (now (flows .exit)) (now (heads .exit)) (now (members .exit))) (now (memory .exit)) (now (buffer .exit)) list (step (switchOf d (arrays (now (flows .entry)) (now (heads .entry)) (now (members .entry)))) (borrowed (now (memory .entry)) frame (now (buffer .entry)) list) Process)) ⌝ }
 {
     let regs = d.registers;
-    let ring = regs.ring;
+    let ring = registers::command_ring(regs);
     let t = slot::take(memory, ring, buffer.len());
     let answer = t.answer;
     if !t.ready {
         return answered(d, answer);
     }
     let s = t.slot;
-    let q = slot::prepare(memory, buffer, s, regs.ports);
+    let q = slot::prepare(memory, buffer, s, terms_of(regs));
     let counts = d.counts;
     let x = execute::execute(q, counts, flows, heads, members);
     let status = x.status;
     let completed = slot::finish(memory, buffer, t.at, s.size, status, ring.tail);
-    let mut moved = regs;
-    let next = registers::complete(ring);
-    moved.ring = next;
+    let moved = registers::complete(regs);
     let live = x.counts;
     Called {
         answer: Answer::Done,
         value: 0,
-        interrupt: registers::complete_interrupt(ring),
+        interrupt: registers::complete_raises(regs),
         completed: completed,
-        length: 6 + s.size,
+        written: 6 + s.size,
         outputs: 0,
         device: Device {
             registers: moved,
@@ -207,9 +222,9 @@ pub fn frame(
     port: u64,
     f: &[u8],
     list: &mut [u16],
-    flows: &[[u32; 16]; 256],
-    heads: &[[u32; 3]; 128],
-    members: &[[u16; 62]; 128],
+    flows: &FlowRows,
+    heads: &GroupHeads,
+    members: &GroupMembers,
 ) -> Called
     ensures { λ r. ⌜ ((memory buffer : List ℕ) → Outcome r d (arrays (now (flows .entry)) (now (heads .entry)) (now (members .entry))) (arrays (now (flows .entry)) (now (heads .entry)) (now (members .entry))) memory buffer (now (list .exit)) (step (switchOf d (arrays (now (flows .entry)) (now (heads .entry)) (now (members .entry)))) (borrowed memory (now (f .entry)) buffer (now (list .entry))) (Frame port))) ⌝ }
 {
@@ -231,9 +246,9 @@ pub fn call(
     f: &[u8],
     buffer: &mut [u8],
     list: &mut [u16],
-    flows: &mut [[u32; 16]; 256],
-    heads: &mut [[u32; 3]; 128],
-    members: &mut [[u16; 62]; 128],
+    flows: &mut FlowRows,
+    heads: &mut GroupHeads,
+    members: &mut GroupMembers,
 ) -> Called
     ensures { λ r. ⌜ Outcome r d (arrays (now (flows .entry)) (now (heads .entry)) (now (members .entry))) (arrays (now (flows .exit)) (now (heads .exit)) (now (members .exit))) (now (memory .exit)) (now (buffer .exit)) (now (list .exit)) (step (switchOf d (arrays (now (flows .entry)) (now (heads .entry)) (now (members .entry)))) (borrowed (now (memory .entry)) (now (f .entry)) (now (buffer .entry)) (now (list .entry))) request) ⌝ }
 {

@@ -10,9 +10,11 @@ use lib.ListN.{length}
 use lib.Dec.{ltb, leb, eqb}
 use borrow.Author.Tests.{eqb-true, eq-eqb, ne-eqb}
 use Rattle.rules.specs.Choose.{refuse}
+use Rattle.rules.specs.Limits.{maxCredits}
 use Rattle.rules.specs.Bytes.{inside}
-use Rattle.rules.specs.Descriptor.{descriptorAt}
-use Rattle.rules.specs.Switch.{Switch, Borrowed, unchanged, readEffect, writeEffect, linked, slotRecord, processRefusal, processEffect, framed, headed, refusal, effect, step}
+use Rattle.rules.specs.Registers.{commandRing}
+use Rattle.rules.specs.Descriptor.{descriptorAt, slotRefusal}
+use Rattle.rules.specs.Switch.{Switch, Borrowed, unchanged, readEffect, writeEffect, linked, slotRecord, bufferRefusal, processRefusal, processEffect, framed, headed, refusal, effect, step}
 use Rattle.rules.specs.declared.Request.{Request}
 use Rattle.rules.specs.declared.Request.the-variants.{Read, Write, Link, Process, Frame, Header}
 use Rattle.rules.proofs.Cases.{by-eq}
@@ -64,12 +66,12 @@ first : (t : Bool) (rest : ℕ) → (rest ≡ 3 → ⊥) → (refuse t 3 rest �
 first true rest k = (λ e. refl, λ e. refl)
 first false rest k = (λ e. absurd (k e), λ e. absurd (let z : _≡_ {A = ℕ} 0 1 = cc in omega arith))
 
-pub process-idle : (s : Switch) (b : Borrowed) → (step s b Process .answer ≡ 3) ↔ (s .registers .ring .head ≡ s .registers .ring .tail)
-unfolding processRefusal
+pub process-idle : (s : Switch) (b : Borrowed) → (step s b Process .answer ≡ 3) ↔ (commandRing (s .registers) .head ≡ commandRing (s .registers) .tail)
+unfolding processRefusal slotRefusal bufferRefusal
 process-idle s b =
-    let x = first (eqb (s .registers .ring .head) (s .registers .ring .tail)) _
-    (later (leb 65536 (s .registers .ring .credits)) 4 _ (omega arith)
-    (later (not (inside (descriptorAt (s .registers .ring)) 32 (b .memory))) 5 _ (omega arith)
+    let x = first (eqb (commandRing (s .registers) .head) (commandRing (s .registers) .tail)) _
+    (later (leb maxCredits (commandRing (s .registers) .credits)) 4 _ (omega arith)
+    (later (not (inside (descriptorAt (commandRing (s .registers))) 32 (b .memory))) 5 _ (omega arith)
     (later (ltb (length (b .buffer)) (length (slotRecord s (b .memory)))) 6 0 (omega arith) (omega arith)))) in
     let a : step s b Process .answer ≡ processRefusal s b = answer-is s b Process ∙ unfold refusal in refl in
     (λ e. eqb-true _ _ (x .0 (sym a ∙ e)), λ e. a ∙ x .1 (eq-eqb _ _ e))

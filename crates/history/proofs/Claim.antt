@@ -8,14 +8,16 @@ use native.Mathlib.Omega.{arith}
 use lib.ListN.{length, take}
 use lib.Dec.{leb}
 use borrow.Author.Tests.{eqb-true, ne-eqb}
+use Rattle.rules.specs.Limits.{maxPorts, maxPayload, maxFlows, maxGroups}
 use Rattle.rules.specs.Bytes.{bytesOf}
 use Rattle.rules.specs.Ring.{zeroRing, outstanding}
 use Rattle.rules.specs.Descriptor.{Fetched, descriptorAt, descriptor, fetch}
 use Rattle.rules.specs.Descriptor.Fetched.{Faulty, Payload}
-use Rattle.rules.specs.Registers.{freshRegisters}
+use Rattle.rules.specs.Registers.{commandRing, currentTerms, termsOf, freshRegisters}
 use Rattle.rules.specs.Tables.{Tables, cookieOf, idOf, execute}
 use Rattle.rules.specs.Journal.{Progress, isUnread, recordAgrees, tablesAfter, counted, ready, finish, finished, endsIn, replay, header, completion}
 use Rattle.rules.specs.Switch.{Switch, Borrowed, freshSwitch, unchanged, carry, carriedSlot, processEffect, headed, effect, step}
+use Rattle.rules.specs.declared.Terms.{Terms}
 use Rattle.rules.specs.declared.Status.the-variants.{Ok}
 use Rattle.rules.specs.declared.Request.the-variants.{Process, Header}
 use Rattle.rules.proofs.Cases.{by-eq, by-test, and-right}
@@ -38,17 +40,17 @@ use Rattle.history.proofs.Drains.{drain}
 -- ---- A status other than OK
 
 -- leaves the tables
-carry-unpaid : (ports : ℕ) (t : Tables) (f : Fetched) → (completion (carry ports t f .status) ≡ completion Ok → ⊥) → carry ports t f .tables ≡ t
+carry-unpaid : (terms : Terms) (t : Tables) (f : Fetched) → (completion (carry terms t f .status) ≡ completion Ok → ⊥) → carry terms t f .tables ≡ t
 unfolding carry
-carry-unpaid ports t (Faulty e) n = refl
-carry-unpaid ports t (Payload p) n = not-ok-unchanged ports p t (λ e. n (ap completion e))
+carry-unpaid terms t (Faulty e) n = refl
+carry-unpaid terms t (Payload p) n = not-ok-unchanged terms p t (λ e. n (ap completion e))
 
-process-unpaid : (s : Switch) (b : Borrowed) → (step s b Process .completed ≡ completion Ok → ⊥) → step s b Process .switch .tables ≡ s .tables
+process-unpaid : (s : Switch) (b : Borrowed) → (step s b Process .told .completed ≡ completion Ok → ⊥) → step s b Process .switch .tables ≡ s .tables
 process-unpaid s b n =
     by-eq (step s b Process .answer) 0
     (λ e p. rw (process-accepted s b e)
     (unfold processEffect carriedSlot in
-    carry-unpaid (s .registers .ports) (s .tables) (fetch (b .memory) (descriptor (b .memory) (descriptorAt (s .registers .ring))))
+    carry-unpaid (termsOf (s .registers)) (s .tables) (fetch (b .memory) (descriptor (b .memory) (descriptorAt (commandRing (s .registers)))))
     (rw (process-accepted s b e) at n)))
     (λ ne p. rw (refused s b Process (λ z. ne (answer-is s b Process ∙ z))) (unfold unchanged in refl))
 
@@ -59,42 +61,42 @@ unfolding recordAgrees tablesAfter counted
 record-unpaid p c payload h n =
     by-test (isUnread c)
     (λ q. rw (q, ne-eqb c (completion Ok) n) (refl, refl))
-    (λ q. let e : c ≡ completion (execute (p .ports) payload (p .tables) .status) = eqb-true _ _ (and-right (leb (length payload) 4096) _ (rw q at h)) in
-    rw (q, ne-eqb c (completion Ok) n) (not-ok-unchanged (p .ports) payload (p .tables) (λ z. n (e ∙ ap completion z)), refl))
+    (λ q. let e : c ≡ completion (execute (p .terms) payload (p .tables) .status) = eqb-true _ _ (and-right (leb (length payload) maxPayload) _ (rw q at h)) in
+    rw (q, ne-eqb c (completion Ok) n) (not-ok-unchanged (p .terms) payload (p .tables) (λ z. n (e ∙ ap completion z)), refl))
 
 -- ---- What a header call writes
 
 header-writes : (ports : ℕ) (s : Switch) (b : Borrowed) → s .registers .ports ≡ ports → step s b Header .answer ≡ 0
-    → (take (step s b Header .length) (step s b Header .buffer) ≡ header ports) × (step s b Header .switch ≡ s)
+    → (take (step s b Header .told .written) (step s b Header .buffer) ≡ header (currentTerms ports)) × (step s b Header .switch ≡ s)
 header-writes ports s b q e =
     let x : step s b Header ≡ headed s b = accepted s b Header (sym (answer-is s b Header) ∙ e) ∙ unfold effect in refl in
-    rw x (unfold headed header bytesOf in (rw q (take-splice (header ports) (b .buffer)), refl))
+    rw x (unfold headed header bytesOf in (rw q (take-splice (header (currentTerms ports)) (b .buffer)), refl))
 
 -- ---- THE THEOREM
 
 -- for every port count from 1 to 62, every switch ID and every list of calls
-pub demand3 : (ports id : ℕ) → 1 ≤ ports → ports ≤ 62 → (calls : List Call)
+pub demand3 : (ports id : ℕ) → 1 ≤ ports → ports ≤ maxPorts → (calls : List Call)
     → Claim ports (final (freshSwitch ports id) calls) (trace (freshSwitch ports id) calls)
 unfolding ringOf journalOf creditsOf
 demand3 ports id lo hi calls =
     let s₀ = freshSwitch ports id in
     let s = final s₀ calls in
     let t = trace s₀ calls in
-    let ring : (cs : List Call) → RingInvariantOf (final s₀ cs .registers .ring) (ringOf (trace s₀ cs)) =
-    λ cs. always notesRing (λ s b. RingInvariantOf (s .registers .ring) b) ring-keeps s₀ (emptied 0) cs
+    let ring : (cs : List Call) → RingInvariantOf (commandRing (final s₀ cs .registers)) (ringOf (trace s₀ cs)) =
+    λ cs. always notesRing (λ s b. RingInvariantOf (commandRing (s .registers)) b) ring-keeps s₀ (emptied 0) cs
     (unfold freshSwitch freshRegisters zeroRing in ring-emptied 0 (omega arith)) in
     let here = ring calls in
     let journal = always notesJournal (JournalInvariant ports) (journal-keeps ports) s₀ noRecords calls
     (unfold freshSwitch freshRegisters in journal-begins ports (freshSwitch ports id) refl lo hi refl) in
-    let credits = always notesCredits (λ s t. CreditInvariant (s .registers .ring .credits) t) credits-keep s₀ noCredits calls
+    let credits = always notesCredits (λ s t. CreditInvariant (commandRing (s .registers) .credits) t) credits-keep s₀ noCredits calls
     (unfold freshSwitch freshRegisters zeroRing noCredits in refl) in
     record {
       order = ring-order here;
       idle = λ b. let i = process-idle s b in let j = ring-idle here in (λ e. j .0 (i .0 e), λ e. i .1 (j .1 e));
       completed = each-completed s₀ ring calls;
       completes = λ b. step-completes s b t here;
-      flows = ordered-table cookieOf 256 (s .tables .flows) (journal .in-order .flows-rise) (journal .in-order .flows-fit);
-      groups = ordered-table idOf 128 (s .tables .groups) (journal .in-order .groups-rise) (journal .in-order .groups-fit);
+      flows = ordered-table cookieOf maxFlows (s .tables .flows) (journal .in-order .flows-rise) (journal .in-order .flows-fit);
+      groups = ordered-table idOf maxGroups (s .tables .groups) (journal .in-order .groups-rise) (journal .in-order .groups-fit);
       replays = unfold replay finish ready finished endsIn in rw (journal .reads);
       heads = λ b. header-writes ports s b (journal .ports-are);
       unpaid = process-unpaid s;

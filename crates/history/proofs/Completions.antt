@@ -5,9 +5,11 @@ use Prim.Native.Nat.{ℕ}
 use mathlib.Core.Path.{_≡_, refl, sym, _∙_}
 use mathlib.Core.List.{List, [], _∷_, _++_, nil≢cons}
 use Rattle.rules.specs.Bytes.{leAt}
+use Rattle.rules.specs.Writes.{memoryAfter}
+use Rattle.rules.specs.Registers.{commandRing}
 use Rattle.rules.specs.Descriptor.{descriptorAt, completionAt}
 use Rattle.rules.specs.Journal.{completion, recordOf}
-use Rattle.rules.specs.Switch.{Switch, Borrowed, carriedSlot, slotRecord, processRefusal, processEffect, refusal, step}
+use Rattle.rules.specs.Switch.{Switch, Borrowed, carriedSlot, slotRecord, processRefusal, processWrites, processEffect, refusal, step}
 use Rattle.rules.specs.declared.Status.{Status}
 use Rattle.rules.specs.declared.Request.the-variants.{Process}
 use Rattle.rules.proofs.Bytes.{two-front}
@@ -24,12 +26,12 @@ unfolding completionIn recordOf leAt
 record-completion e bs slot = two-front (completion e) _ (completion-below e)
 
 -- A PROCESS CALL THAT IS ANSWERED 0 COMPLETES THE NEXT SLOT POSTED
-module _ (s : Switch) (b : Borrowed) (t : List Seen) (h : RingInvariantOf (s .registers .ring) (ringOf t)) where
+module _ (s : Switch) (b : Borrowed) (t : List Seen) (h : RingInvariantOf (commandRing (s .registers)) (ringOf t)) where
   effect-completes : processRefusal s b ≡ 0 → CompletesItsSlot t (seen s b Process (processEffect s b))
   effect-completes e =
       let c = carriedSlot s (b .memory) in
       let slot = process-slot s b (ringOf t) h in
-      let comp : completionIn (slotRecord s (b .memory)) ≡ completion (c .status) = unfold slotRecord in record-completion (c .status) (c .payload) (s .registers .ring .tail) in
+      let comp : completionIn (slotRecord s (b .memory)) ≡ completion (c .status) = unfold slotRecord in record-completion (c .status) (c .payload) (commandRing (s .registers) .tail) in
       let n = ring-next h (process-busy s b e) in
       record {
         later = n .0;
@@ -38,7 +40,7 @@ module _ (s : Switch) (b : Borrowed) (t : List Seen) (h : RingInvariantOf (s .re
         recorded = rw (process-written s b) comp;
         returned = rw (process-written s b, comp) (unfold seen processEffect in refl);
         inside = rw (process-written s b, slot) (let i = process-inside s b e in unfold seen descriptorAt in i);
-        stamped = rw (process-written s b, slot, comp) (unfold seen processEffect completionAt descriptorAt in refl);
+        stamped = rw (process-written s b, slot, comp) (unfold seen processEffect processWrites memoryAfter completionAt descriptorAt in refl);
       }
 
   pub step-completes : step s b Process .answer ≡ 0 → CompletesItsSlot t (seen s b Process (step s b Process))
@@ -62,7 +64,7 @@ place s (m ∷ ms) (y ∷ before) after x e =
     record { calls = m ∷ p .calls; call = p .call; before-is = cc (p .before-is); seen-is = p .seen-is }
 
 -- and so did every one of the trace
-module _ (s : Switch) (ring : (calls : List Call) → RingInvariantOf (final s calls .registers .ring) (ringOf (trace s calls))) where
+module _ (s : Switch) (ring : (calls : List Call) → RingInvariantOf (commandRing (final s calls .registers)) (ringOf (trace s calls))) where
   call-completed : (before : List Seen) (x : Seen) (calls : List Call) (c : Call) → before ≡ trace s calls
       → x ≡ seen (final s calls) (c .borrowed) (c .request) (stepAt (final s calls) c) → x .request ≡ Process → x .answer ≡ 0 → CompletesItsSlot before x
   unfolding stepAt

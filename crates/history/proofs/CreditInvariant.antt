@@ -4,7 +4,7 @@ use Prim.Native.Nat.{ℕ, _+_}
 use mathlib.Core.Path.{_≡_}
 use native.Mathlib.Omega.{arith}
 use Rattle.rules.specs.Ring.{completeEffect}
-use Rattle.rules.specs.Registers.{Written, access, taken, write, withRing, withLinks}
+use Rattle.rules.specs.Registers.{commandRing, Written, access, taken, write, withRing, withLinks}
 use Rattle.rules.specs.Switch.{Switch, Borrowed, readEffect, writeEffect, linked, processEffect, framed, headed, refusal, effect}
 use Rattle.rules.specs.declared.Registers.{Registers}
 use Rattle.rules.specs.declared.Request.{Request}
@@ -18,8 +18,8 @@ use Rattle.history.proofs.Writes.{Does, write-does}
 abbrev pub CreditInvariant : ℕ → CreditHistory → Type 0
 CreditInvariant credits t = credits + t .returned ≡ t .consumed
 
-event-keeps : (d : Registers) (w : Written) (t : CreditHistory) (e : Event) → CreditInvariant (d .ring .credits) t → Does d w e
-    → CreditInvariant (w .registers .ring .credits) (creditEvent t e)
+event-keeps : (d : Registers) (w : Written) (t : CreditHistory) (e : Event) → CreditInvariant (commandRing d .credits) t → Does d w e
+    → CreditInvariant (commandRing (w .registers) .credits) (creditEvent t e)
 unfolding creditEvent noCredits
 event-keeps d w t Other h x = rw (x .credits-is) h
 event-keeps d w t WritesBase h x = rw (x .credits-is) h
@@ -30,8 +30,8 @@ event-keeps d w t ResetsRing h x = rw (x .credits-is)
 event-keeps d w t ResetsDevice h x = rw (x .credits-is)
 event-keeps d w t Processes h x = absurd x
 
-pub credits-keep : (s : Switch) (t : CreditHistory) (m : Borrowed) (r : Request) → CreditInvariant (s .registers .ring .credits) t → refusal s m r ≡ 0
-    → CreditInvariant (effect s m r .switch .registers .ring .credits) (notesCredits t (seen s m r (effect s m r)))
+pub credits-keep : (s : Switch) (t : CreditHistory) (m : Borrowed) (r : Request) → CreditInvariant (commandRing (s .registers) .credits) t → refusal s m r ≡ 0
+    → CreditInvariant (commandRing (effect s m r .switch .registers) .credits) (notesCredits t (seen s m r (effect s m r)))
 unfolding refusal effect
 credits-keep s t m (Read offset width) h e = unfold notesCredits creditEvent event seen readEffect in h
 credits-keep s t m (Write offset width v) h e =

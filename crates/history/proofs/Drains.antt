@@ -8,11 +8,12 @@ use native.Mathlib.Omega.{arith}
 use lib.ListN.{length}
 use lib.Dec.{ltb, leb, eqb}
 use Rattle.rules.specs.Choose.{refuse}
+use Rattle.rules.specs.Limits.{maxCredits}
 use Rattle.rules.specs.Bytes.{inside}
 use Rattle.rules.specs.Ring.{distance, completeEffect}
-use Rattle.rules.specs.Descriptor.{descriptorAt}
-use Rattle.rules.specs.Registers.{withRing}
-use Rattle.rules.specs.Switch.{Switch, Borrowed, unchanged, slotRecord, processRefusal, processEffect, headed, refusal, effect, step}
+use Rattle.rules.specs.Descriptor.{descriptorAt, slotRefusal}
+use Rattle.rules.specs.Registers.{commandRing, withRing}
+use Rattle.rules.specs.Switch.{Switch, Borrowed, unchanged, slotRecord, bufferRefusal, processRefusal, processEffect, headed, refusal, effect, step}
 use Rattle.rules.specs.declared.Request.{Request}
 use Rattle.rules.specs.declared.Request.the-variants.{Read, Write, Link, Process, Frame, Header}
 use Rattle.rules.proofs.Cases.{by-eq, by-test}
@@ -33,43 +34,43 @@ skip false n rest h = refl
 -- a process call that meets none of its refusals is done
 process-done : (s : Switch) (b : Borrowed) → (processRefusal s b ≡ 3 → ⊥) → (processRefusal s b ≡ 4 → ⊥) → (processRefusal s b ≡ 5 → ⊥)
     → (processRefusal s b ≡ 6 → ⊥) → processRefusal s b ≡ 0
-unfolding processRefusal
+unfolding processRefusal slotRefusal bufferRefusal
 process-done s b h3 h4 h5 h6 =
-    let e3 = skip (eqb (s .registers .ring .head) (s .registers .ring .tail)) 3 _ h3 in
-    let e4 = skip (leb 65536 (s .registers .ring .credits)) 4 _ (λ e. h4 (e3 ∙ e)) in
-    let e5 = skip (not (inside (descriptorAt (s .registers .ring)) 32 (b .memory))) 5 _ (λ e. h5 (e3 ∙ (e4 ∙ e))) in
+    let e3 = skip (eqb (commandRing (s .registers) .head) (commandRing (s .registers) .tail)) 3 _ h3 in
+    let e4 = skip (leb maxCredits (commandRing (s .registers) .credits)) 4 _ (λ e. h4 (e3 ∙ e)) in
+    let e5 = skip (not (inside (descriptorAt (commandRing (s .registers))) 32 (b .memory))) 5 _ (λ e. h5 (e3 ∙ (e4 ∙ e))) in
     e3 ∙ (e4 ∙ (e5 ∙ skip (ltb (length (b .buffer)) (length (slotRecord s (b .memory)))) 6 0 (λ e. h6 (e3 ∙ (e4 ∙ (e5 ∙ e))))))
 
 -- and takes one off what is outstanding
-nearer : (s : Switch) (b : Borrowed) (h : RingHistory) → RingInvariantOf (s .registers .ring) h → processRefusal s b ≡ 0
-    → distance (s .registers .ring .size) (s .registers .ring .tail) (s .registers .ring .head)
-    ≡ suc (distance (processEffect s b .switch .registers .ring .size) (processEffect s b .switch .registers .ring .tail) (processEffect s b .switch .registers .ring .head))
+nearer : (s : Switch) (b : Borrowed) (h : RingHistory) → RingInvariantOf (commandRing (s .registers)) h → processRefusal s b ≡ 0
+    → distance (commandRing (s .registers) .size) (commandRing (s .registers) .tail) (commandRing (s .registers) .head)
+    ≡ suc (distance (commandRing (processEffect s b .switch .registers) .size) (commandRing (processEffect s b .switch .registers) .tail) (commandRing (processEffect s b .switch .registers) .head))
 unfolding processEffect withRing completeEffect
 nearer s b h t e =
-    let r = s .registers .ring in
+    let r = commandRing (s .registers) in
     let ne = process-busy s b e in
     let ht : r .tail < r .size = omega (arith, ne, t .tail-in, t .head-in) in
     let hh : r .head < r .size = omega (arith, t .head-in) in
     rw (next-is (r .size) (r .tail) ht) (distance-next (r .size) (r .tail) (r .head) ht hh ne)
 
-pub drain : (n : ℕ) (s : Switch) (h : RingHistory) (bs : List Borrowed) (b : Borrowed) → RingInvariantOf (s .registers .ring) h → length bs ≡ n
-    → distance (s .registers .ring .size) (s .registers .ring .tail) (s .registers .ring .head) ≡ n → NoneAnswered456 (trace s (processes bs))
+pub drain : (n : ℕ) (s : Switch) (h : RingHistory) (bs : List Borrowed) (b : Borrowed) → RingInvariantOf (commandRing (s .registers)) h → length bs ≡ n
+    → distance (commandRing (s .registers) .size) (commandRing (s .registers) .tail) (commandRing (s .registers) .head) ≡ n → NoneAnswered456 (trace s (processes bs))
     → step (final s (processes bs)) b Process .answer ≡ 3
 unfolding final trace processes stepAt seen
 drain zero s h [] b t l d u =
-    process-idle s b .1 (distance-zero (s .registers .ring .size) (s .registers .ring .tail) (s .registers .ring .head) (t .tail-in) (t .head-in) d)
+    process-idle s b .1 (distance-zero (commandRing (s .registers) .size) (commandRing (s .registers) .tail) (commandRing (s .registers) .head) (t .tail-in) (t .head-in) d)
 drain zero s h (x ∷ bs) b t l d u = absurd (omega arith)
 drain (suc n) s h [] b t l d u = absurd (omega arith)
 drain (suc n) s h (x ∷ bs) b t l d u =
     let a : step s x Process .answer ≡ processRefusal s x = answer-is s x Process ∙ unfold refusal in refl in
     let busy : processRefusal s x ≡ 3 → ⊥ =
     λ e. let q = process-idle s x .0 (a ∙ e) in
-    let z : distance (s .registers .ring .size) (s .registers .ring .tail) (s .registers .ring .head) ≡ 0 = rw q (distance-self (s .registers .ring .size) (s .registers .ring .tail) (t .tail-in)) in
+    let z : distance (commandRing (s .registers) .size) (commandRing (s .registers) .tail) (commandRing (s .registers) .head) ≡ 0 = rw q (distance-self (commandRing (s .registers) .size) (commandRing (s .registers) .tail) (t .tail-in)) in
     omega arith in
     let e : processRefusal s x ≡ 0 = process-done s x busy (λ e. u .0 (a ∙ e)) (λ e. u .1 (a ∙ e)) (λ e. u .2 (a ∙ e)) in
     let p : step s x Process ≡ processEffect s x = process-accepted s x (a ∙ e) in
-    let k : RingInvariantOf (step s x Process .switch .registers .ring) (notesRing h (seen s x Process (processEffect s x))) = rw p (process-keeps s x h t e) in
-    let m : distance (step s x Process .switch .registers .ring .size) (step s x Process .switch .registers .ring .tail) (step s x Process .switch .registers .ring .head) ≡ n =
+    let k : RingInvariantOf (commandRing (step s x Process .switch .registers)) (notesRing h (seen s x Process (processEffect s x))) = rw p (process-keeps s x h t e) in
+    let m : distance (commandRing (step s x Process .switch .registers) .size) (commandRing (step s x Process .switch .registers) .tail) (commandRing (step s x Process .switch .registers) .head) ≡ n =
     rw p (omega (arith, nearer s x h t e)) in
     drain n (step s x Process .switch) _ bs b k (omega arith) m (u .3)
 

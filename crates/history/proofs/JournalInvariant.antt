@@ -7,12 +7,14 @@ use mathlib.Core.Path.{_≡_, refl}
 use mathlib.Core.List.{_++_, append-assoc, append-nil}
 use native.Mathlib.Omega.{arith}
 use Rattle.rules.specs.Choose.{choose}
+use Rattle.rules.specs.Limits.{maxPorts}
 use Rattle.rules.specs.Descriptor.{Fetched, descriptorAt, descriptor, fetch}
 use Rattle.rules.specs.Descriptor.Fetched.{Faulty, Payload}
-use Rattle.rules.specs.Registers.{Written, access, taken, write, withRing, withLinks}
+use Rattle.rules.specs.Registers.{commandRing, currentTerms, termsOf, Written, access, taken, write, withRing, withLinks}
 use Rattle.rules.specs.Tables.{Tables, emptyTables}
-use Rattle.rules.specs.Journal.{Progress, begin, ready, feeds, counted, header, completion}
+use Rattle.rules.specs.Journal.{Progress, begin, ready, opened, feeds, counted, header, completion}
 use Rattle.rules.specs.Switch.{Switch, Borrowed, Carried, carry, carriedSlot, slotRecord, readEffect, writeEffect, linked, processEffect, framed, headed, refusal, effect}
+use Rattle.rules.specs.declared.Terms.{Terms}
 use Rattle.rules.specs.declared.Request.{Request}
 use Rattle.rules.specs.declared.Request.the-variants.{Read, Write, Link, Process, Frame, Header}
 use Rattle.rules.proofs.Tables.{Good, empty-good, execute-good}
@@ -27,19 +29,19 @@ use Rattle.history.proofs.RingInvariant.{process-written}
 
 -- what replay is to come to
 abbrev pub account : ℕ → Tables → JournalHistory → Progress
-account ports t l = record { ports = ports; records = l .records; charged = l .completedOk; tables = t }
+account ports t l = record { terms = currentTerms ports; records = l .records; charged = l .completedOk; tables = t }
 
 pub record JournalInvariant (ports : ℕ) (s : Switch) (l : JournalHistory) : Type 0 where
   pub ports-are : s .registers .ports ≡ ports
   pub low : 1 ≤ ports
-  pub high : ports ≤ 62
+  pub high : ports ≤ maxPorts
   pub in-order : Good (s .tables)
-  pub reads : feeds begin (header ports ++ l .journal) ≡ ready (account ports (s .tables) l)
+  pub reads : feeds begin (header (currentTerms ports) ++ l .journal) ≡ ready (account ports (s .tables) l)
 
-pub journal-begins : (ports : ℕ) (s : Switch) → s .registers .ports ≡ ports → 1 ≤ ports → ports ≤ 62 → s .tables ≡ emptyTables → JournalInvariant ports s noRecords
-unfolding noRecords
+pub journal-begins : (ports : ℕ) (s : Switch) → s .registers .ports ≡ ports → 1 ≤ ports → ports ≤ maxPorts → s .tables ≡ emptyTables → JournalInvariant ports s noRecords
+unfolding noRecords opened
 journal-begins ports s p lo hi t =
-    record { ports-are = p; low = lo; high = hi; in-order = rw t empty-good; reads = rw (append-nil, t) (header-opens ports lo hi) }
+    record { ports-are = p; low = lo; high = hi; in-order = rw t empty-good; reads = rw (append-nil, t) (header-opens (currentTerms ports) refl lo hi) }
 
 -- ports and tables are all that it looks at
 same : {ports : ℕ} (s s′ : Switch) (l : JournalHistory) → JournalInvariant ports s l → s′ .registers .ports ≡ s .registers .ports → s′ .tables ≡ s .tables → JournalInvariant ports s′ l
@@ -67,25 +69,25 @@ module _ (ports : ℕ) (s : Switch) (m : Borrowed) (l : JournalHistory) (x : See
 -- ---- A process call: its record is read, and replay agrees
 
 -- a slot carried out keeps the order
-carry-good : (ports : ℕ) (t : Tables) (f : Fetched) → Good t → Good (carry ports t f .tables)
+carry-good : (terms : Terms) (t : Tables) (f : Fetched) → Good t → Good (carry terms t f .tables)
 unfolding carry
-carry-good ports t (Faulty e) g = g
-carry-good ports t (Payload p) g = execute-good ports p t g
+carry-good terms t (Faulty e) g = g
+carry-good terms t (Payload p) g = execute-good terms p t g
 
 process-keeps : (ports : ℕ) (s : Switch) (l : JournalHistory) (m : Borrowed) → JournalInvariant ports s l
     → JournalInvariant ports (processEffect s m .switch) (withRecord l (completion (carriedSlot s (m .memory) .status)) (slotRecord s (m .memory)))
 unfolding processEffect withRecord slotRecord carriedSlot counted withRing
 process-keeps ports s l m h =
-    let d = descriptor (m .memory) (descriptorAt (s .registers .ring)) in
-    let c : Carried = carry ports (s .tables) (fetch (m .memory) d) in
+    let d = descriptor (m .memory) (descriptorAt (commandRing (s .registers))) in
+    let c : Carried = carry (currentTerms ports) (s .tables) (fetch (m .memory) d) in
     let p : Progress = account ports (s .tables) l in
-    let short = fetch-short ports (s .tables) (m .memory) d in
+    let short = fetch-short (currentTerms ports) (s .tables) (m .memory) d in
     record {
       ports-are = h .ports-are;
       low = h .low;
       high = h .high;
-      in-order = carry-good (s .registers .ports) (s .tables) (fetch (m .memory) d) (h .in-order);
-      reads = rw (h .ports-are, ← append-assoc, feeds-append, h .reads, record-reads p (c .status) (s .registers .ring .tail) (c .payload) (omega arith)) (fetch-agrees p (m .memory) d);
+      in-order = carry-good (termsOf (s .registers)) (s .tables) (fetch (m .memory) d) (h .in-order);
+      reads = rw (h .ports-are, ← append-assoc, feeds-append, h .reads, record-reads p (c .status) (commandRing (s .registers) .tail) (c .payload) (omega arith)) (fetch-agrees p (m .memory) d);
     }
 
 pub journal-keeps : (ports : ℕ) (s : Switch) (l : JournalHistory) (m : Borrowed) (r : Request) → JournalInvariant ports s l → refusal s m r ≡ 0
@@ -99,7 +101,7 @@ journal-keeps ports s l m (Write offset width v) h e =
 journal-keeps ports s l m (Link port up) h e = unfold notesJournal journalEvent event seen linked withLinks in same s _ l h refl refl
 journal-keeps ports s l m Process h e = unfold notesJournal journalEvent event in rw (process-written s m) (unfold seen in record-kept)
   where
-    record-kept : JournalInvariant ports (processEffect s m .switch) (withRecord l (processEffect s m .completed) (slotRecord s (m .memory)))
+    record-kept : JournalInvariant ports (processEffect s m .switch) (withRecord l (processEffect s m .told .completed) (slotRecord s (m .memory)))
     record-kept = let k = process-keeps ports s l m h in unfold processEffect in k
 journal-keeps ports s l m (Frame port) h e = unfold notesJournal journalEvent event seen framed in h
 journal-keeps ports s l m Header h e = unfold notesJournal journalEvent event seen headed in h

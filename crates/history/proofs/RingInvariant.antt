@@ -11,10 +11,11 @@ use lib.Seq.{take-append-seam, drop-append-seam}
 use lib.Dec.{leb, eqb}
 use borrow.Author.Tests.{leb-true, eqb-false, not-false}
 use Rattle.rules.specs.Choose.{refuse}
+use Rattle.rules.specs.Limits.{maxCredits}
 use Rattle.rules.specs.Bytes.{inside}
 use Rattle.rules.specs.Ring.{distance, completeEffect}
-use Rattle.rules.specs.Descriptor.{descriptorAt}
-use Rattle.rules.specs.Registers.{Written, access, taken, write, withRing, withLinks}
+use Rattle.rules.specs.Descriptor.{descriptorAt, slotRefusal}
+use Rattle.rules.specs.Registers.{commandRing, Written, access, taken, write, withRing, withLinks}
 use Rattle.rules.specs.Switch.{Switch, Borrowed, carriedSlot, slotRecord, processRefusal, readEffect, writeEffect, linked, processEffect, framed, headed, refusal, effect}
 use Rattle.rules.specs.declared.Ring.{Ring}
 use Rattle.rules.specs.declared.Registers.{Registers}
@@ -101,12 +102,12 @@ module _ {size head tail : ℕ} {b : RingHistory} (h : RingInvariant size head t
 
 -- ---- An accepted write
 
-event-keeps : (d : Registers) (w : Written) (b : RingHistory) (written : List ℕ) (e : Event) → RingInvariantOf (d .ring) b → Does d w e
-    → RingInvariantOf (w .registers .ring) (notesEvent b written e)
+event-keeps : (d : Registers) (w : Written) (b : RingHistory) (written : List ℕ) (e : Event) → RingInvariantOf (commandRing d) b → Does d w e
+    → RingInvariantOf (commandRing (w .registers)) (notesEvent b written e)
 unfolding notesEvent
 event-keeps d w b written Other h x = rw (x .size-is, x .head-is, x .tail-is) h
 event-keeps d w b written WritesBase h x =
-    rw (x .size-is, x .head-is, x .tail-is, h .size-is) (ring-emptied (d .ring .size) (h .small))
+    rw (x .size-is, x .head-is, x .tail-is, h .size-is) (ring-emptied (commandRing d .size) (h .small))
 event-keeps d w b written (WritesSize v) h x = rw (x .0 .size-is, x .0 .head-is, x .0 .tail-is) (ring-emptied v (x .1))
 event-keeps d w b written (WritesHead v) h x = rw (x .0 .size-is, x .0 .head-is, x .0 .tail-is) (ring-head h v (x .1) (x .2))
 event-keeps d w b written (WritesCredits n) h x = rw (x .0 .size-is, x .0 .head-is, x .0 .tail-is) h
@@ -122,16 +123,16 @@ passed true n rest e = absurd (omega arith)
 passed false n rest e = (refl, e)
 
 -- answered 0: head is not tail, and the descriptor is inside memory
-pub process-busy : (s : Switch) (m : Borrowed) → processRefusal s m ≡ 0 → s .registers .ring .head ≡ s .registers .ring .tail → ⊥
-unfolding processRefusal
-process-busy s m e = eqb-false _ _ (passed (eqb (s .registers .ring .head) (s .registers .ring .tail)) 2 _ e .0)
+pub process-busy : (s : Switch) (m : Borrowed) → processRefusal s m ≡ 0 → commandRing (s .registers) .head ≡ commandRing (s .registers) .tail → ⊥
+unfolding processRefusal slotRefusal
+process-busy s m e = eqb-false _ _ (passed (eqb (commandRing (s .registers) .head) (commandRing (s .registers) .tail)) 2 _ e .0)
 
-pub process-inside : (s : Switch) (m : Borrowed) → processRefusal s m ≡ 0 → descriptorAt (s .registers .ring) + 32 ≤ length (m .memory)
-unfolding processRefusal inside
+pub process-inside : (s : Switch) (m : Borrowed) → processRefusal s m ≡ 0 → descriptorAt (commandRing (s .registers)) + 32 ≤ length (m .memory)
+unfolding processRefusal slotRefusal inside
 process-inside s m e =
-    let a = passed (eqb (s .registers .ring .head) (s .registers .ring .tail)) 2 _ e in
-    let b = passed (leb 65536 (s .registers .ring .credits)) 3 _ (a .1) in
-    let c = passed (not (leb (descriptorAt (s .registers .ring) + 32) (length (m .memory)))) 4 _ (b .1) in
+    let a = passed (eqb (commandRing (s .registers) .head) (commandRing (s .registers) .tail)) 2 _ e in
+    let b = passed (leb maxCredits (commandRing (s .registers) .credits)) 3 _ (a .1) in
+    let c = passed (not (leb (descriptorAt (commandRing (s .registers)) + 32) (length (m .memory)))) 4 _ (b .1) in
     leb-true _ _ (not-false _ (c .0))
 
 -- the bytes that it writes are the record, which has the slot
@@ -139,25 +140,25 @@ pub process-written : (s : Switch) (m : Borrowed) → seen s m Process (processE
 unfolding seen processEffect
 process-written s m = take-splice (slotRecord s (m .memory)) (m .buffer)
 
-pub process-slot : (s : Switch) (m : Borrowed) (b : RingHistory) → RingInvariantOf (s .registers .ring) b
-    → slotIn (slotRecord s (m .memory)) ≡ s .registers .ring .tail
+pub process-slot : (s : Switch) (m : Borrowed) (b : RingHistory) → RingInvariantOf (commandRing (s .registers)) b
+    → slotIn (slotRecord s (m .memory)) ≡ commandRing (s .registers) .tail
 unfolding slotRecord slotIn
 process-slot s m b h =
-    record-slot (carriedSlot s (m .memory) .status) (carriedSlot s (m .memory) .payload) (s .registers .ring .tail)
+    record-slot (carriedSlot s (m .memory) .status) (carriedSlot s (m .memory) .payload) (commandRing (s .registers) .tail)
     (omega (arith, h .tail-in, h .small))
 
-pub process-keeps : (s : Switch) (m : Borrowed) (b : RingHistory) → RingInvariantOf (s .registers .ring) b → processRefusal s m ≡ 0
-    → RingInvariantOf (processEffect s m .switch .registers .ring) (notesRing b (seen s m Process (processEffect s m)))
+pub process-keeps : (s : Switch) (m : Borrowed) (b : RingHistory) → RingInvariantOf (commandRing (s .registers)) b → processRefusal s m ≡ 0
+    → RingInvariantOf (commandRing (processEffect s m .switch .registers)) (notesRing b (seen s m Process (processEffect s m)))
 unfolding notesRing notesEvent event processEffect seen
 process-keeps s m b h e =
-    let r = s .registers .ring in
+    let r = commandRing (s .registers) in
     let ne = process-busy s m e in
     let ht : r .tail < r .size = omega (arith, ne, h .tail-in, h .head-in) in
     rw (process-written s m, process-slot s m b h)
     (unfold processEffect withRing completeEffect in rw (next-is (r .size) (r .tail) ht) (ring-consumed h ne))
 
-pub ring-keeps : (s : Switch) (b : RingHistory) (m : Borrowed) (r : Request) → RingInvariantOf (s .registers .ring) b → refusal s m r ≡ 0
-    → RingInvariantOf (effect s m r .switch .registers .ring) (notesRing b (seen s m r (effect s m r)))
+pub ring-keeps : (s : Switch) (b : RingHistory) (m : Borrowed) (r : Request) → RingInvariantOf (commandRing (s .registers)) b → refusal s m r ≡ 0
+    → RingInvariantOf (commandRing (effect s m r .switch .registers)) (notesRing b (seen s m r (effect s m r)))
 unfolding refusal effect
 ring-keeps s b m (Read offset width) h e = unfold notesRing notesEvent event seen readEffect in h
 ring-keeps s b m (Write offset width v) h e =

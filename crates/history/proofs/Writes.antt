@@ -8,37 +8,38 @@ use native.Mathlib.Nat.{pow-le-pow-right}
 use lib.Dec.{ltb, leb, eqb}
 use borrow.Author.Tests.{ltb-true, ltb-false, leb-true, eqb-true, not-false}
 use Rattle.rules.specs.Choose.{choose, refuse}
-use Rattle.rules.specs.Ring.{zeroRing, distance, outstanding, advance, baseEffect, powerUpTo, sizeRefusal, sizeEffect, headRefusal, headEffect, creditsRefusal, creditsEffect, ctrlEffect}
-use Rattle.rules.specs.Registers.{Written, access, upperOf, narrowAt, coveredBy, wideAt, isWide, registerAt, withRing, withLinks, withTest, withTest64, withEnable, freshRegisters, resetRegisters, sets, store, baseLatched, latchEffect, taken, joined, writeTo, unlessRefused, write}
+use Rattle.rules.specs.Ring.{zeroRing, distance, outstanding, advance, baseEffect, powerUpTo, sizeRefusal, sizeEffect, headRefusal, headEffect, creditsRefusal, creditsEffect, ctrlEffect, ringWide, ringStore, baseLatched, ringLatched}
+use Rattle.rules.specs.Registers.{commandRing, Written, access, upperOf, narrowAt, coveredBy, wideAt, isWide, registerAt, withRing, withLinks, withTest, withTest64, withEnable, freshRegisters, resetRegisters, sets, inRing, store, latchEffect, taken, joined, writeTo, unlessRefused, write}
 use Rattle.rules.specs.declared.Registers.{Registers}
 use Rattle.rules.specs.declared.Register.{Register}
-use Rattle.rules.specs.declared.Register.the-variants.{Magic, TestReg, TestReg64, Control, PortPhysCount, PortPhysLinkStatus, PortPhysEnable, SwitchId, BaseAddr, Size, Head, Tail, Ctrl, Credits}
+use Rattle.rules.specs.declared.Register.the-variants.{Magic, TestReg, TestReg64, Control, PortPhysCount, PortPhysLinkStatus, PortPhysEnable, SwitchId, OfRing}
+use Rattle.rules.specs.declared.RingRegister.the-variants.{BaseAddr, Size, Head, Tail, Ctrl, Credits}
 use Rattle.rules.specs.declared.Located.{Located}
 use Rattle.rules.specs.declared.Located.the-variants.{Nowhere, Here}
 use Rattle.rules.specs.declared.Access.{Access}
 use Rattle.rules.specs.declared.Access.the-variants.{NotAllowed, Reserved, Whole, Lower, Upper}
 use Rattle.rules.proofs.Cases.{by-test, by-eq, not-both, and-left, and-right}
-use Rattle.history.specs.Events.{Event, storeEvent, writeEvent}
+use Rattle.history.specs.Events.{Event, ringEvent, storeEvent, writeEvent}
 use Rattle.history.specs.Events.Event.{Other, WritesBase, WritesSize, WritesHead, WritesCredits, ResetsRing, ResetsDevice, Processes}
 
 -- the ring's numbers after a write, whether the tables were emptied, and that the port count stayed
 pub record Leaves (d : Registers) (w : Written) (size head tail credits : ℕ) (resets : Bool) : Type 0 where
-  pub size-is : w .registers .ring .size ≡ size
-  pub head-is : w .registers .ring .head ≡ head
-  pub tail-is : w .registers .ring .tail ≡ tail
-  pub credits-is : w .registers .ring .credits ≡ credits
+  pub size-is : commandRing (w .registers) .size ≡ size
+  pub head-is : commandRing (w .registers) .head ≡ head
+  pub tail-is : commandRing (w .registers) .tail ≡ tail
+  pub credits-is : commandRing (w .registers) .credits ≡ credits
   pub resets-is : w .resets ≡ resets
   pub ports-is : w .registers .ports ≡ d .ports
 
 abbrev pub Does : Registers → Written → Event → Type 0
-Does d w Other = Leaves d w (d .ring .size) (d .ring .head) (d .ring .tail) (d .ring .credits) false
-Does d w WritesBase = Leaves d w (d .ring .size) 0 0 (d .ring .credits) false
-Does d w (WritesSize v) = Leaves d w v 0 0 (d .ring .credits) false × (v ≤ 65536)
+Does d w Other = Leaves d w (commandRing d .size) (commandRing d .head) (commandRing d .tail) (commandRing d .credits) false
+Does d w WritesBase = Leaves d w (commandRing d .size) 0 0 (commandRing d .credits) false
+Does d w (WritesSize v) = Leaves d w v 0 0 (commandRing d .credits) false × (v ≤ 65536)
 Does d w (WritesHead v) =
-    Leaves d w (d .ring .size) v (d .ring .tail) (d .ring .credits) false × (v < d .ring .size)
-    × (distance (d .ring .size) (d .ring .tail) (d .ring .head) + distance (d .ring .size) (d .ring .head) v ≤ d .ring .size - 1)
+    Leaves d w (commandRing d .size) v (commandRing d .tail) (commandRing d .credits) false × (v < commandRing d .size)
+    × (distance (commandRing d .size) (commandRing d .tail) (commandRing d .head) + distance (commandRing d .size) (commandRing d .head) v ≤ commandRing d .size - 1)
 Does d w (WritesCredits n) =
-    Leaves d w (d .ring .size) (d .ring .head) (d .ring .tail) (d .ring .credits - n) false × (n ≤ d .ring .credits)
+    Leaves d w (commandRing d .size) (commandRing d .head) (commandRing d .tail) (commandRing d .credits - n) false × (n ≤ commandRing d .credits)
 Does d w ResetsRing = Leaves d w 0 0 0 0 false
 Does d w ResetsDevice = Leaves d w 0 0 0 0 true
 Does d w Processes = ⊥
@@ -62,11 +63,11 @@ power-le (suc k) v h e =
     (λ p. power-le k v (omega arith) p)
 
 -- a write that leaves the ring alone
-plain : (d : Registers) (w : Written) → w .registers .ring ≡ d .ring → w .resets ≡ false → w .registers .ports ≡ d .ports → Does d w Other
+plain : (d : Registers) (w : Written) → commandRing (w .registers) ≡ commandRing d → w .resets ≡ false → w .registers .ports ≡ d .ports → Does d w Other
 plain d w r t p = record { size-is = rw r; head-is = rw r; tail-is = rw r; credits-is = rw r; resets-is = t; ports-is = p }
 
 store-does : (d : Registers) (r : Register) (v : ℕ) → store d r v .refusal ≡ 0 → Does d (store d r v) (storeEvent r v)
-unfolding store storeEvent sets withRing withTest withTest64 withEnable
+unfolding store storeEvent ringEvent sets inRing ringStore withRing withTest withTest64 withEnable
 store-does d Magic v e = plain d _ refl refl refl
 store-does d TestReg v e = plain d _ refl refl refl
 store-does d TestReg64 v e = plain d _ refl refl refl
@@ -79,35 +80,35 @@ store-does d PortPhysCount v e = plain d _ refl refl refl
 store-does d PortPhysLinkStatus v e = plain d _ refl refl refl
 store-does d PortPhysEnable v e = plain d _ refl refl refl
 store-does d SwitchId v e = plain d _ refl refl refl
-store-does d BaseAddr v e =
+store-does d (OfRing n BaseAddr) v e =
     unfold baseEffect in record { size-is = refl; head-is = refl; tail-is = refl; credits-is = refl; resets-is = refl; ports-is = refl }
-store-does d Size v e =
+store-does d (OfRing n Size) v e =
     unfold sizeEffect sizeRefusal in (
       record { size-is = refl; head-is = refl; tail-is = refl; credits-is = refl; resets-is = refl; ports-is = refl },
       power-le 16 v (omega arith) (not-false (powerUpTo 16 v) (not-refused (not (powerUpTo 16 v)) e)),
     )
-store-does d Head v e =
+store-does d (OfRing n Head) v e =
     unfold headEffect headRefusal outstanding advance in
-    let t : ltb v (d .ring .size) && leb (distance (d .ring .size) (d .ring .tail) (d .ring .head) + distance (d .ring .size) (d .ring .head) v) (d .ring .size - 1) ≡ true =
+    let t : ltb v (commandRing d .size) && leb (distance (commandRing d .size) (commandRing d .tail) (commandRing d .head) + distance (commandRing d .size) (commandRing d .head) v) (commandRing d .size - 1) ≡ true =
     not-false _ (not-refused _ e) in (
       record { size-is = refl; head-is = refl; tail-is = refl; credits-is = refl; resets-is = refl; ports-is = refl },
-      ltb-true v (d .ring .size) (and-left _ _ t),
-      leb-true _ _ (and-right (ltb v (d .ring .size)) _ t),
+      ltb-true v (commandRing d .size) (and-left _ _ t),
+      leb-true _ _ (and-right (ltb v (commandRing d .size)) _ t),
     )
-store-does d Tail v e = plain d _ refl refl refl
-store-does d Ctrl v e =
+store-does d (OfRing n Tail) v e = plain d _ refl refl refl
+store-does d (OfRing n Ctrl) v e =
     unfold ctrlEffect zeroRing in
     by-test (eqb (v % 2) 1)
     (λ p. rw p (record { size-is = refl; head-is = refl; tail-is = refl; credits-is = refl; resets-is = refl; ports-is = refl }))
     (λ p. rw p (record { size-is = refl; head-is = refl; tail-is = refl; credits-is = refl; resets-is = refl; ports-is = refl }))
-store-does d Credits v e =
+store-does d (OfRing n Credits) v e =
     unfold creditsEffect creditsRefusal in (
       record { size-is = refl; head-is = refl; tail-is = refl; credits-is = refl; resets-is = refl; ports-is = refl },
-      ltb-false (d .ring .credits) v (not-refused (ltb (d .ring .credits) v) e),
+      ltb-false (commandRing d .credits) v (not-refused (ltb (commandRing d .credits) v) e),
     )
 
 latch-does : (d : Registers) (r : Register) (v : ℕ) → Does d (sets 0 (latchEffect d r v)) Other
-unfolding sets latchEffect withTest64 withEnable withRing baseLatched
+unfolding sets latchEffect withTest64 withEnable withRing ringLatched baseLatched
 latch-does d Magic v = plain d _ refl refl refl
 latch-does d TestReg v = plain d _ refl refl refl
 latch-does d TestReg64 v = plain d _ refl refl refl
@@ -116,12 +117,12 @@ latch-does d PortPhysCount v = plain d _ refl refl refl
 latch-does d PortPhysLinkStatus v = plain d _ refl refl refl
 latch-does d PortPhysEnable v = plain d _ refl refl refl
 latch-does d SwitchId v = plain d _ refl refl refl
-latch-does d BaseAddr v = record { size-is = refl; head-is = refl; tail-is = refl; credits-is = refl; resets-is = refl; ports-is = refl }
-latch-does d Size v = plain d _ refl refl refl
-latch-does d Head v = plain d _ refl refl refl
-latch-does d Tail v = plain d _ refl refl refl
-latch-does d Ctrl v = plain d _ refl refl refl
-latch-does d Credits v = plain d _ refl refl refl
+latch-does d (OfRing n BaseAddr) v = record { size-is = refl; head-is = refl; tail-is = refl; credits-is = refl; resets-is = refl; ports-is = refl }
+latch-does d (OfRing n Size) v = plain d _ refl refl refl
+latch-does d (OfRing n Head) v = plain d _ refl refl refl
+latch-does d (OfRing n Tail) v = plain d _ refl refl refl
+latch-does d (OfRing n Ctrl) v = plain d _ refl refl refl
+latch-does d (OfRing n Credits) v = plain d _ refl refl refl
 
 -- ---- An upper half is reached only of a register of 8 bytes
 
@@ -165,7 +166,7 @@ access-halves offset width =
 
 -- of such registers only BASE_ADDR means something to the ring, whatever its value
 upper-event : (r : Register) (v v′ : ℕ) → isWide r ≡ true → storeEvent r v′ ≡ storeEvent r v
-unfolding isWide storeEvent
+unfolding isWide ringWide storeEvent ringEvent
 upper-event Magic v v′ e = refl
 upper-event TestReg v v′ e = refl
 upper-event TestReg64 v v′ e = refl
@@ -174,12 +175,12 @@ upper-event PortPhysCount v v′ e = refl
 upper-event PortPhysLinkStatus v v′ e = refl
 upper-event PortPhysEnable v v′ e = refl
 upper-event SwitchId v v′ e = refl
-upper-event BaseAddr v v′ e = refl
-upper-event Size v v′ e = not-both (sym e)
-upper-event Head v v′ e = not-both (sym e)
-upper-event Tail v v′ e = refl
-upper-event Ctrl v v′ e = not-both (sym e)
-upper-event Credits v v′ e = not-both (sym e)
+upper-event (OfRing n BaseAddr) v v′ e = refl
+upper-event (OfRing n Size) v v′ e = not-both (sym e)
+upper-event (OfRing n Head) v v′ e = not-both (sym e)
+upper-event (OfRing n Tail) v v′ e = refl
+upper-event (OfRing n Ctrl) v v′ e = not-both (sym e)
+upper-event (OfRing n Credits) v v′ e = not-both (sym e)
 
 write-to-does : (d : Registers) (a : Access) (v : ℕ) → Halves a → writeTo d a v .refusal ≡ 0 → Does d (writeTo d a v) (writeEvent a v)
 unfolding writeTo writeEvent sets

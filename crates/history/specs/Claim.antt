@@ -6,7 +6,9 @@ use mathlib.Core.Path.{_≡_}
 use mathlib.Core.Logic.{_↔_}
 use mathlib.Core.List.{List, _∷_, _++_}
 use lib.ListN.{length, take}
+use Rattle.rules.specs.Limits.{maxFlows, maxGroups}
 use Rattle.rules.specs.Ring.{outstanding}
+use Rattle.rules.specs.Registers.{commandRing, currentTerms}
 use Rattle.rules.specs.Tables.{cookieOf, idOf}
 use Rattle.rules.specs.Journal.{Progress, recordAgrees, tablesAfter, counted, replay, header, completion}
 use Rattle.rules.specs.Journal.Replayed.{Replays}
@@ -31,21 +33,21 @@ pub record Claim (ports : ℕ) (s : Switch) (t : List Seen) : Type 0 where
   -- .. and so does one more
   pub completes : (b : Borrowed) → step s b Process .answer ≡ 0 → CompletesItsSlot t (seen s b Process (step s b Process))
   -- keys rise, no two alike, no more entries than places; look-up means the entry with this key
-  pub flows : OrderedTable cookieOf 256 (s .tables .flows)
-  pub groups : OrderedTable idOf 128 (s .tables .groups)
+  pub flows : OrderedTable cookieOf maxFlows (s .tables .flows)
+  pub groups : OrderedTable idOf maxGroups (s .tables .groups)
   -- replaying the journal gives the device's tables and the charge
-  pub replays : replay (header ports ++ journalOf t .journal)
-      ≡ Replays (record { ports = ports; records = journalOf t .records; charged = journalOf t .completedOk; tables = s .tables })
+  pub replays : replay (header (currentTerms ports) ++ journalOf t .journal)
+      ≡ Replays (record { terms = currentTerms ports; records = journalOf t .records; charged = journalOf t .completedOk; tables = s .tables })
   -- that header is the one which a header call writes, whenever it comes
   pub heads : (b : Borrowed) → step s b Header .answer ≡ 0
-      → (take (step s b Header .length) (step s b Header .buffer) ≡ header ports) × (step s b Header .switch ≡ s)
+      → (take (step s b Header .told .written) (step s b Header .buffer) ≡ header (currentTerms ports)) × (step s b Header .switch ≡ s)
   -- a process call that does not complete OK changes no table
-  pub unpaid : (b : Borrowed) → (step s b Process .completed ≡ completion Ok → ⊥) → step s b Process .switch .tables ≡ s .tables
+  pub unpaid : (b : Borrowed) → (step s b Process .told .completed ≡ completion Ok → ⊥) → step s b Process .switch .tables ≡ s .tables
   -- nor does a record of the journal whose status is not OK, which is charged for neither
   pub unpaid-record : (p : Progress) (c : ℕ) (payload : List ℕ) → recordAgrees p c payload ≡ true → (c ≡ completion Ok → ⊥)
       → (tablesAfter p c payload ≡ p .tables) × (counted p c (tablesAfter p c payload) .charged ≡ p .charged)
   -- with n slots outstanding, process call n + 1 answers 3 if none before it meets 4, 5 or 6 and no other call comes between
-  pub drains : (bs : List Borrowed) (b : Borrowed) → length bs ≡ outstanding (s .registers .ring) → NoneAnswered456 (trace s (processes bs))
+  pub drains : (bs : List Borrowed) (b : Borrowed) → length bs ≡ outstanding (commandRing (s .registers)) → NoneAnswered456 (trace s (processes bs))
       → step (final s (processes bs)) b Process .answer ≡ 3
   -- since the last ring or device reset, CREDITS is consumed slots less credits returned by accepted writes
-  pub credits : s .registers .ring .credits + creditsOf t .returned ≡ creditsOf t .consumed
+  pub credits : commandRing (s .registers) .credits + creditsOf t .returned ≡ creditsOf t .consumed

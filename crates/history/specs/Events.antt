@@ -4,7 +4,9 @@ use lib.Dec.{eqb}
 use Rattle.rules.specs.Choose.{choose}
 use Rattle.rules.specs.Registers.{access, taken}
 use Rattle.rules.specs.declared.Register.{Register}
-use Rattle.rules.specs.declared.Register.the-variants.{Magic, TestReg, TestReg64, Control, PortPhysCount, PortPhysLinkStatus, PortPhysEnable, SwitchId, BaseAddr, Size, Head, Tail, Ctrl, Credits}
+use Rattle.rules.specs.declared.Register.the-variants.{Magic, TestReg, TestReg64, Control, PortPhysCount, PortPhysLinkStatus, PortPhysEnable, SwitchId, OfRing}
+use Rattle.rules.specs.declared.RingRegister.{RingRegister}
+use Rattle.rules.specs.declared.RingRegister.the-variants.{BaseAddr, Size, Head, Tail, Ctrl, Credits}
 use Rattle.rules.specs.declared.Access.{Access}
 use Rattle.rules.specs.declared.Access.the-variants.{NotAllowed, Reserved, Whole, Lower, Upper}
 use Rattle.rules.specs.declared.Request.{Request}
@@ -20,7 +22,16 @@ pub data Event : Type 0 where
   ResetsDevice : Event
   Processes : Event
 
--- "of CTRL or CONTROL with bit 0 set"
+-- of the ring: TAIL cannot be written, and CTRL resets "with bit 0 set"
+unfoldable pub ringEvent : RingRegister → ℕ → Event
+ringEvent BaseAddr v = WritesBase
+ringEvent Size v = WritesSize v
+ringEvent Head v = WritesHead v
+ringEvent Tail v = Other
+ringEvent Ctrl v = choose (eqb (v % 2) 1) ResetsRing Other
+ringEvent Credits v = WritesCredits v
+
+-- CONTROL too resets "with bit 0 set"
 unfoldable pub storeEvent : Register → ℕ → Event
 storeEvent Magic v = Other
 storeEvent TestReg v = Other
@@ -30,14 +41,9 @@ storeEvent PortPhysCount v = Other
 storeEvent PortPhysLinkStatus v = Other
 storeEvent PortPhysEnable v = Other
 storeEvent SwitchId v = Other
-storeEvent BaseAddr v = WritesBase
-storeEvent Size v = WritesSize v
-storeEvent Head v = WritesHead v
-storeEvent Tail v = Other
-storeEvent Ctrl v = choose (eqb (v % 2) 1) ResetsRing Other
-storeEvent Credits v = WritesCredits v
+storeEvent (OfRing n r) v = ringEvent r v
 
--- a write of the lower half "doesn't count as a write of the register"; one of the upper half does
+-- a write of the lower half "doesn't count"; one of the upper half does
 unfoldable pub writeEvent : Access → ℕ → Event
 writeEvent NotAllowed v = Other
 writeEvent Reserved v = Other

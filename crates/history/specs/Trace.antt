@@ -6,6 +6,7 @@ use mathlib.Core.List.{List, [], _∷_}
 use lib.ListN.{take}
 use lib.Dec.{eqb}
 use Rattle.rules.specs.Choose.{choose}
+use Rattle.rules.specs.Registers.{commandRing}
 use Rattle.rules.specs.Switch.{Switch, Borrowed, Result, step}
 use Rattle.rules.specs.declared.Request.{Request}
 use Rattle.rules.specs.declared.Request.the-variants.{Read, Write, Link, Process, Frame, Header}
@@ -34,9 +35,9 @@ seen s b r x =
     record {
       request = r;
       answer = x .answer;
-      completed = x .completed;
-      written = take (x .length) (x .buffer);
-      base = s .registers .ring .«base_addr»;
+      completed = x .told .completed;
+      written = take (x .told .written) (x .buffer);
+      base = commandRing (s .registers) .«base_addr»;
       memory = b .memory;
       memoryAfter = x .memory;
     }
@@ -50,7 +51,7 @@ unfoldable pub trace : Switch → List Call → List Seen
 trace s [] = []
 trace s (m ∷ ms) = seen s (m .borrowed) (m .request) (stepAt s m) ∷ trace (stepAt s m .switch) ms
 
--- What an observer has written down after a list of calls. "Refused and other calls change nothing."
+-- What an observer has written down after a list of calls: refused ones change nothing
 module _ {B : Type 0} (note : B → Seen → B) where
   unfoldable pub noted : B → Seen → B
   noted b x = choose (eqb (x .answer) 0) (note b x) b

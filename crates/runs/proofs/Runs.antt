@@ -9,15 +9,17 @@ use native.Mathlib.Omega.{arith}
 use borrow.Author.Tests.{leb-true, eq-eqb}
 use lib.Dec.{leb}
 use Rattle.rules.specs.Choose.{refuse}
+use Rattle.rules.specs.Limits.{maxPorts}
 use Rattle.rules.specs.Answers.{number}
 use Rattle.rules.specs.Places.{live}
-use Rattle.rules.specs.Registers.{portCountAllowed}
+use Rattle.rules.specs.Registers.{portCountAllowed, currentTerms}
 use Rattle.rules.specs.Tables.{Arrays, tablesOf, emptyTables, noneLive}
 use Rattle.rules.specs.Journal.{Progress, header, replay}
 use Rattle.rules.specs.Switch.{Switch, switchOf, freshRefusal, freshSwitch, freshDevice}
 use Rattle.rules.specs.declared.Device.{Device}
 use Rattle.rules.proofs.Cases.{by-eq, and-left, and-right}
 use Rattle.device.specs.Outcome.{borrowed}
+use Rattle.device.proofs.Outcome.{completed-told, written-told}
 use Rattle.replaying.specs.Reading.{progressOf}
 use Rattle.replaying.specs.Replaying.{resultOf, Gives}
 use Rattle.replaying.specs.declared.replay.Replayed.{Replayed}
@@ -39,11 +41,11 @@ not-refused true e = refl
 not-refused false e = absurd (omega arith)
 
 -- answered 0, the port count is 1 to 62
-ports-allowed : (ports : ℕ) → freshRefusal ports ≡ 0 → (1 ≤ ports) × (ports ≤ 62)
+ports-allowed : (ports : ℕ) → freshRefusal ports ≡ 0 → (1 ≤ ports) × (ports ≤ maxPorts)
 unfolding freshRefusal portCountAllowed
 ports-allowed ports e =
-    let t = not-refused (leb 1 ports && leb ports 62) e in
-    (leb-true 1 ports (and-left _ _ t), leb-true ports 62 (and-right (leb 1 ports) _ t))
+    let t = not-refused (leb 1 ports && leb ports maxPorts) e in
+    (leb-true 1 ports (and-left _ _ t), leb-true ports maxPorts (and-right (leb 1 ports) _ t))
 
 -- ---- A chain of calls is a list of the rules' calls
 
@@ -59,7 +61,7 @@ seen-is : (d : Device) (a : Arrays) (c : CodeCall) → Ensured d a c
 unfolding seenBy seen stepAt borrowed
 seen-is d a c o =
     let r : switchOf d a .registers ≡ d .registers = unfold switchOf in refl in
-    rw (o .answer-is, o .completed-is, o .length-is, o .buffer-is, o .memory-is, r)
+    rw (o .answer-is, completed-told o, written-told o, o .buffer-is, o .memory-is, r)
 
 chain-is : (d : Device) (a : Arrays) (cs : List CodeCall) → Chain d a cs
     → (switchOf (lastDevice d cs) (lastArrays a cs) ≡ final (switchOf d a) (callsOf cs)) × (seenOf d cs ≡ trace (switchOf d a) (callsOf cs))
@@ -74,11 +76,11 @@ chain-is d a (c ∷ cs) h =
 -- ---- A replay of the code
 
 replayed-as : (ports : ℕ) (s : Switch) (t : List Seen) → Claim ports s t → (q : Replayed) (a : Arrays)
-    → Gives q a (replay (header ports ++ journalOf t .journal)) → ReplayedAs q a ports s t
+    → Gives q a (replay (header (currentTerms ports) ++ journalOf t .journal)) → ReplayedAs q a ports s t
 unfolding resultOf progressOf
 replayed-as ports s t c q a g =
     let e = g .result-is ∙ c .replays in
-    let came : Progress = record { ports = ports; records = journalOf t .records; charged = journalOf t .completedOk; tables = s .tables } in
+    let came : Progress = record { terms = currentTerms ports; records = journalOf t .records; charged = journalOf t .completedOk; tables = s .tables } in
     by-eq (number (q .answer)) 0
     (λ z p. let f = rw p at e in
     let i : progressOf (q .progress) a ≡ came = cc in
@@ -87,7 +89,7 @@ replayed-as ports s t c q a g =
       tables-are = ap (λ (x : Progress). x .tables) i;
       charged-is = ap (λ (x : Progress). x .charged) i;
       records-are = ap (λ (x : Progress). x .records) i;
-      ports-are = ap (λ (x : Progress). x .ports) i;
+      ports-are = ap (λ (x : Progress). x .terms .ports) i;
     })
     (λ z p. let f = rw p at e in absurd (let w : _≡_ {A = ℕ} 0 1 = cc in omega arith))
 

@@ -5,6 +5,7 @@ use mathlib.Core.Path.{_≡_}
 use mathlib.Core.List.{List, [], _∷_, _++_}
 use lib.ListN.{take}
 use Rattle.rules.specs.Answers.{number}
+use Rattle.rules.specs.Registers.{commandRing, currentTerms}
 use Rattle.rules.specs.Tables.{Arrays, tablesOf}
 use Rattle.rules.specs.Journal.{header, replay}
 use Rattle.rules.specs.Switch.{Switch, switchOf, step}
@@ -59,8 +60,8 @@ seenBy d c =
       request = c .request;
       answer = number (c .gives .answer);
       completed = c .gives .completed;
-      written = take (c .gives .length) (c .bufferAfter);
-      base = d .registers .ring .«base_addr»;
+      written = take (c .gives .written) (c .bufferAfter);
+      base = commandRing (d .registers) .«base_addr»;
       memory = c .memory;
       memoryAfter = c .memoryAfter;
     }
@@ -92,9 +93,9 @@ pub record ReplayedAs (q : Replayed) (a : Arrays) (ports : ℕ) (s : Switch) (t 
   pub tables-are : tablesOf (q .progress .counts) a ≡ s .tables
   pub charged-is : q .progress .charged ≡ journalOf t .completedOk
   pub records-are : q .progress .records ≡ journalOf t .records
-  pub ports-are : q .progress .ports ≡ ports
+  pub ports-are : q .progress .terms .ports ≡ ports
 
 -- DEMAND 3 OF THE CODE: the claim, and that `replaying::replay`, by what it ensures of header and journal, gives this back
 pub record CodeClaim (ports : ℕ) (s : Switch) (t : List Seen) : Type 0 where
   pub claim : Claim ports s t
-  pub replayed : (q : Replayed) (a : Arrays) → Gives q a (replay (header ports ++ journalOf t .journal)) → ReplayedAs q a ports s t
+  pub replayed : (q : Replayed) (a : Arrays) → Gives q a (replay (header (currentTerms ports) ++ journalOf t .journal)) → ReplayedAs q a ports s t

@@ -5,6 +5,9 @@ use device::Called;
 use device::Made;
 use replaying::replay::Replayed;
 use rules::Device;
+use rules::FlowRows;
+use rules::GroupHeads;
+use rules::GroupMembers;
 use rules::Request;
 ghost use Rattle.rules.specs.Tables.{arrays};
 ghost use Rattle.rules.specs.Journal.{replay as Journal·replay};
@@ -16,9 +19,9 @@ ghost use Rattle.runs.specs.Runs.{Ensured};
 fn fresh(
     ports: u64,
     switch_id: u64,
-    flows: &mut [[u32; 16]; 256],
-    heads: &mut [[u32; 3]; 128],
-    members: &mut [[u16; 62]; 128],
+    flows: &mut FlowRows,
+    heads: &mut GroupHeads,
+    members: &mut GroupMembers,
 ) -> Made
     ensures { λ r. ⌜ Makes r ports «switch_id» (arrays (now (flows .entry)) (now (heads .entry)) (now (members .entry))) (arrays (now (flows .exit)) (now (heads .exit)) (now (members .exit))) ⌝ }
 {
@@ -33,9 +36,9 @@ fn call(
     f: &[u8],
     buffer: &mut [u8],
     list: &mut [u16],
-    flows: &mut [[u32; 16]; 256],
-    heads: &mut [[u32; 3]; 128],
-    members: &mut [[u16; 62]; 128],
+    flows: &mut FlowRows,
+    heads: &mut GroupHeads,
+    members: &mut GroupMembers,
 ) -> Called
     ensures { λ r. ⌜ Ensured d (arrays (now (flows .entry)) (now (heads .entry)) (now (members .entry))) (record { request = request; memory = now (memory .entry); frame = now (f .entry); buffer = now (buffer .entry); list = now (list .entry); gives = r; arraysAfter = arrays (now (flows .exit)) (now (heads .exit)) (now (members .exit)); memoryAfter = now (memory .exit); bufferAfter = now (buffer .exit); listAfter = now (list .exit) }) ⌝ }
 {
@@ -45,9 +48,9 @@ fn call(
 // The replay of its journal: `CodeClaim` has it.
 fn replay(
     s: &[u8],
-    flows: &mut [[u32; 16]; 256],
-    heads: &mut [[u32; 3]; 128],
-    members: &mut [[u16; 62]; 128],
+    flows: &mut FlowRows,
+    heads: &mut GroupHeads,
+    members: &mut GroupMembers,
 ) -> Replayed
     ensures { λ q. ⌜ Gives q (arrays (now (flows .exit)) (now (heads .exit)) (now (members .exit))) (Journal·replay (now (s .entry))) ⌝ }
 {

@@ -1,5 +1,6 @@
 -- `capi::rocker_write_parts` meets its contract.
 -- Assumes nothing.
+use Rattle.device.proofs.Outcome.{raised-told}
 use Rattle.rules.specs.declared.Request.the-variants.{Write}
 use Rattle.capi.proofs.Outcomes.{stored}
 use borrow.Author.Needs.{needs}
@@ -22,7 +23,7 @@ returns : tie.Need-returns
 returns c =
     let b = c .before .before .before in
     let r = b .before in
-    λ a x. stored _ _ a x (Write _ _ _) (r .before .device-of .ensures) (r .write .ensures a x) (rw (b .bit-of .ensures, r .write .ensures a x .interrupt-is)) (c .store .ensures)
+    λ a x. stored _ _ a x (Write _ _ _) (r .before .device-of .ensures) (r .write .ensures a x) (rw (b .bit-of .ensures, raised-told (r .write .ensures a x))) (c .store .ensures)
 
 pub rocker-write-parts-spec : {M : Type 1} → statement M
 rocker-write-parts-spec = tie.close (tie.spec device-of-requires write-requires bit-of-requires store-requires returns)

@@ -1,7 +1,5 @@
 use mathlib.Core.Path.{refl}
 use Rattle.device.specs.Outcome.{quiet}
-use borrow.Author.Needs.{needs}
-use native.Mathlib.Omega.{arith}
 use Rattle.device.proofs.answered.Statement.{statement}
 use Rattle.device.proofs.answered.Tie as tie
 use Rattle.device.proofs.answered.Reads as reads

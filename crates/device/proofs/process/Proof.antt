@@ -1,8 +1,8 @@
 -- `device::process` meets its contract.
+-- What `take` found is of the rules' command ring; refused, it is the rules' refusal, and else prepare, execute, finish and complete are its effect.
 -- Assumes nothing.
 use borrow.Author.Tests.{not-true, not-false}
 use Rattle.device.proofs.Processing.{result, process-refused, processed, still-fits}
-use native.Mathlib.Omega.{arith}
 use borrow.Author.Needs.{needs}
 use Rattle.device.proofs.process.Statement.{statement}
 use Rattle.device.proofs.process.Tie as tie
@@ -11,10 +11,15 @@ use Rattle.device.proofs.process.Lts as lts
 use Rattle.device.proofs.answered.Reads as answered-reads
 use Rattle.execute.proofs.execute.Reads as execute-reads
 use Rattle.registers.proofs.complete.Reads as complete-reads
-use Rattle.registers.proofs.complete_interrupt.Reads as complete-interrupt-reads
+use Rattle.registers.proofs.complete_raises.Reads as complete-raises-reads
+use Rattle.registers.proofs.command_ring.Reads as command-ring-reads
+use Rattle.device.proofs.terms_of.Reads as terms-of-reads
 use Rattle.slot.proofs.finish.Reads as finish-reads
 use Rattle.slot.proofs.prepare.Reads as prepare-reads
 use Rattle.slot.proofs.take.Reads as take-reads
+
+command-ring-requires : tie.Need-command-ring-requires
+command-ring-requires c κs = search needs
 
 take-requires : tie.Need-take-requires
 take-requires c κs = search needs
@@ -26,11 +31,17 @@ same-length : tie.Need-same-length
 same-length c = search needs
 
 returns : tie.Need-returns
-returns c = λ frame list. rw (c .answered .ensures) (process-refused _ _ _ frame _ list _ (c .before .before .before .take .ensures) (not-true _ (c .before .if1 .taken)))
+returns c =
+    let e = c .before in
+    let k = rw (e .before .before .before .before .command-ring .ensures) at (e .before .before .take .ensures) in
+    λ frame list. rw (c .answered .ensures) (process-refused _ _ _ frame _ list _ k (not-true _ (e .if1 .taken)))
+
+terms-of-requires : tie.Need-terms-of-requires
+terms-of-requires c κs = search needs
 
 prepare-requires : tie.Need-prepare-requires
 prepare-requires c κs =
-    let e = c .before .before .before in
+    let e = c .before .before .before .before in
     let t = e .before .before .take .ensures .taken (not-false _ (e .if1 .left)) in
     (t .fetches .fits, t .fits)
 
@@ -39,19 +50,19 @@ execute-requires c κs = search needs
 
 finish-requires : tie.Need-finish-requires
 finish-requires c κs =
-    let e = c .before .before .before .before .before .before .before .before .before .before .before .before .before in
+    let e = c .before .before .before .before .before .before .before .before .before .before .before .before .before .before in
     let t = e .before .before .take .ensures .taken (not-false _ (e .if1 .left)) in
     (t .within, still-fits (c .before .before .before .before .before .before .before .before .before .prepare .ensures) (t .fits))
 
 complete-requires : tie.Need-complete-requires
 complete-requires c κs = search needs
 
-complete-interrupt-requires : tie.Need-complete-interrupt-requires
-complete-interrupt-requires c κs = search needs
+complete-raises-requires : tie.Need-complete-raises-requires
+complete-raises-requires c κs = search needs
 
-add-t22 : tie.Need-add-t22
-add-t22 c =
-    let e = c .before .before .before .before .before .before .before .before .before .before .before .before .before .before .before .before .before .before .before .before .before .before in
+add-t21 : tie.Need-add-t21
+add-t21 c =
+    let e = c .before .before .before .before .before .before .before .before .before .before .before .before .before .before .before .before .before .before .before .before .before .before .before in
     let t = e .before .before .take .ensures .taken (not-false _ (e .if1 .left)) in
     search (needs, t .fetches .short)
 
@@ -64,24 +75,29 @@ same-length-3 c = search needs
 returns-2 : tie.Need-returns-2
 unfolding result
 returns-2 c =
-    let e = c .before .before .before .before .before .before .before .before .before .before .before .before .before .before .before .before .before .before .before .before .before .before in
-    λ frame list. processed _ _ _ frame _ list _ (e .before .before .take .ensures) (not-false _ (e .if1 .left)) _ _ _ _ _ _ _ _ _
-    (c .before .before .before .before .before .before .before .before .before .before .before .before .before .before .before .before .before .before .prepare .ensures) (c .before .before .before .before .before .before .before .before .before .before .before .execute .ensures) (c .before .before .before .before .before .before .before .before .finish .ensures) (c .before .complete-interrupt .ensures) (c .before .before .before .complete .ensures)
+    let e = c .before .before .before .before .before .before .before .before .before .before .before .before .before .before .before .before .before .before .before .before .before .before .before in
+    let ring = e .before .before .before .before .command-ring .ensures in
+    let k = rw ring at (e .before .before .take .ensures) in
+    let p = rw (c .before .before .before .before .before .before .before .before .before .before .before .before .before .before .before .before .before .before .before .terms-of .ensures) at (c .before .before .before .before .before .before .before .before .before .before .before .before .before .before .before .before .before .before .prepare .ensures) in
+    let f = rw ring at (c .before .before .before .before .before .before .before .before .finish .ensures) in
+    λ frame list. processed _ _ _ frame _ list _ k (not-false _ (e .if1 .left)) _ _ _ _ _ _ _ _ _ p (c .before .before .before .before .before .before .before .before .before .before .before .execute .ensures) f (c .before .complete-raises .ensures) (c .before .before .before .complete .ensures)
 
 pub process-spec : {M : Type 1} → statement M
 process-spec =
     tie.close
     (tie.spec
+    command-ring-requires
     take-requires
     answered-requires
     same-length
     returns
+    terms-of-requires
     prepare-requires
     execute-requires
     finish-requires
     complete-requires
-    complete-interrupt-requires
-    add-t22
+    complete-raises-requires
+    add-t21
     same-length-2
     same-length-3
     returns-2)

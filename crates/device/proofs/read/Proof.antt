@@ -1,5 +1,4 @@
 use Rattle.device.proofs.Outcome.{withValue, read-outcome}
-use native.Mathlib.Omega.{arith}
 use borrow.Author.Needs.{needs}
 use Rattle.device.proofs.read.Statement.{statement}
 use Rattle.device.proofs.read.Tie as tie
