@@ -128,16 +128,25 @@ def model(*words):
     return subprocess.run([sys.argv[1], *words], stdout=subprocess.PIPE, check=True).stdout
 
 
-frames, lines = b"", b""
-for number, journal in enumerate(cases(), 1):
+def said_of(journal):
+    """What the other implementation prints of a journal."""
     with tempfile.NamedTemporaryFile() as f:
         f.write(journal)
         f.flush()
-        said = model("replay", f.name)
-    frames += struct.pack("<I", len(journal)) + journal
-    lines += b"journal %d\n" % number + said
-if len(frames) > ROOM:
-    sys.exit(f"{len(frames)} bytes are more than {ROOM}")
-(here / "stdin").write_bytes(frames)
-(here / "stdout").write_bytes(lines)
-print(number, "journals,", len(frames), "bytes")
+        return model("replay", f.name)
+
+
+def main():
+    frames, lines = b"", b""
+    for number, journal in enumerate(cases(), 1):
+        frames += struct.pack("<I", len(journal)) + journal
+        lines += b"journal %d\n" % number + said_of(journal)
+    if len(frames) > ROOM:
+        sys.exit(f"{len(frames)} bytes are more than {ROOM}")
+    (here / "stdin").write_bytes(frames)
+    (here / "stdout").write_bytes(lines)
+    print(number, "journals,", len(frames), "bytes")
+
+
+if __name__ == "__main__":
+    main()

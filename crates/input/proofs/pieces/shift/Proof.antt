@@ -1,10 +1,10 @@
 use mathlib.Core.Path.{_≡_}
-use Rattle.replay.proofs.Moved.{Shifting, shift-starts, shift-goes-on}
+use Rattle.input.proofs.Moved.{Shifting, shift-starts, shift-goes-on}
 use Prim.Native.Nat.{_-_, _≤_}
 use borrow.Author.Needs.{needs}
 use native.Mathlib.Omega.{arith}
-use Rattle.replay.proofs.shift.Statement.{statement}
-use Rattle.replay.proofs.shift.Tie as tie
+use Rattle.input.proofs.pieces.shift.Statement.{statement}
+use Rattle.input.proofs.pieces.shift.Tie as tie
 
 abbrev Inv-loop : tie.InvT-loop
 Inv-loop buffer₀ from end i₀ buffer i = Shifting buffer₀ from i buffer × (i ≤ end - from)
@@ -19,7 +19,10 @@ loop-again : tie.Need-loop-again Inv-loop μ-loop
 loop-again c = (shift-goes-on (c .before .before .loop .inv .0) (omega arith), search needs)
 
 returns : tie.Need-returns Inv-loop μ-loop
-returns c = let e : c .before .loop .i ≡ c .before .before .args .end - c .before .before .args .from = omega arith in rw (← e) (c .before .loop .inv .0 .front)
+returns c =
+    let i = c .before .loop .inv .0 in
+    let e : c .before .loop .i ≡ c .before .before .args .end - c .before .before .args .from = omega arith in
+    record { front = rw (← e) (i .front); size = i .size }
 
 pub shift-spec : {M : Type 1} → statement M
 shift-spec =

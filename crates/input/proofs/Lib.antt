@@ -1,0 +1,4 @@
+pub mod Moved
+pub mod Filling
+pub mod Turning
+pub mod Draining
