@@ -4,6 +4,10 @@
 use hex::Counted;
 use lines::print;
 use rules::Device;
+use rules::FlowRows;
+use rules::GroupHeads;
+use rules::GroupMembers;
+use rules::LIST_NUMBERS;
 use text::Numeral;
 
 // link PORT UP
@@ -75,16 +79,16 @@ fn worked(
     d: Device,
     memory: &mut [u8],
     buffer: &mut [u8],
-    flows: &mut [[u32; 16]; 256],
-    heads: &mut [[u32; 3]; 128],
-    members: &mut [[u16; 62]; 128],
+    flows: &mut FlowRows,
+    heads: &mut GroupHeads,
+    members: &mut GroupMembers,
 ) -> Device {
     let r = device::process(d, memory, buffer, flows, heads, members);
     let answer = r.answer;
     print::answer(answers::number(answer));
     print::raised(r.interrupt);
     print::space();
-    let n = lines::least(r.length, buffer.len());
+    let n = numbers::min(r.written, buffer.len());
     print::bytes(&buffer[0..n]);
     print::end();
     let after = r.device;
@@ -98,14 +102,14 @@ fn work(
     line: u64,
     memory: &mut [u8],
     buffer: &mut [u8],
-    flows: &mut [[u32; 16]; 256],
-    heads: &mut [[u32; 3]; 128],
-    members: &mut [[u16; 62]; 128],
+    flows: &mut FlowRows,
+    heads: &mut GroupHeads,
+    members: &mut GroupMembers,
 ) -> Device {
     let Counted::Bytes(size) = room(s, line) else {
         return d;
     };
-    let n = lines::least(size, buffer.len());
+    let n = numbers::min(size, buffer.len());
     worked(d, memory, &mut buffer[0..n], flows, heads, members)
 }
 
@@ -114,7 +118,7 @@ fn headed(d: Device, buffer: &mut [u8]) -> Device {
     let answer = r.answer;
     print::answer(answers::number(answer));
     print::space();
-    let n = lines::least(r.length, buffer.len());
+    let n = numbers::min(r.written, buffer.len());
     print::bytes(&buffer[0..n]);
     print::end();
     let after = r.device;
@@ -126,14 +130,14 @@ fn header(d: Device, s: &[u8], line: u64, buffer: &mut [u8]) -> Device {
     let Counted::Bytes(size) = room(s, line) else {
         return d;
     };
-    let n = lines::least(size, buffer.len());
+    let n = numbers::min(size, buffer.len());
     headed(d, &mut buffer[0..n])
 }
 
 // A frame's list: 186 numbers, or LISTLEN.
 fn list_length(s: &[u8], line: u64) -> Counted {
     if text::count(s) == 3 {
-        return Counted::Bytes(186);
+        return Counted::Bytes(LIST_NUMBERS);
     }
     if text::count(s) != 4 {
         print::complain(line, b"expected frame PORT HEX [LISTLEN]");
@@ -156,9 +160,9 @@ fn forward(
     port: u64,
     f: &[u8],
     list: &mut [u16],
-    flows: &[[u32; 16]; 256],
-    heads: &[[u32; 3]; 128],
-    members: &[[u16; 62]; 128],
+    flows: &FlowRows,
+    heads: &GroupHeads,
+    members: &GroupMembers,
 ) {
     let r = device::frame(d, port, f, list, flows, heads, members);
     let answer = r.answer;
@@ -177,9 +181,9 @@ fn filled(
     digits: &[u8],
     f: &mut [u8],
     list: &mut [u16],
-    flows: &[[u32; 16]; 256],
-    heads: &[[u32; 3]; 128],
-    members: &[[u16; 62]; 128],
+    flows: &FlowRows,
+    heads: &GroupHeads,
+    members: &GroupMembers,
 ) {
     hex::bytes(digits, f);
     forward(d, port, f, list, flows, heads, members);
@@ -192,9 +196,9 @@ fn frame(
     line: u64,
     buffer: &mut [u8],
     list: &mut [u16],
-    flows: &[[u32; 16]; 256],
-    heads: &[[u32; 3]; 128],
-    members: &[[u16; 62]; 128],
+    flows: &FlowRows,
+    heads: &GroupHeads,
+    members: &GroupMembers,
 ) {
     let Counted::Bytes(long) = list_length(s, line) else {
         return;
@@ -208,8 +212,8 @@ fn frame(
         print::complain(line, b"malformed bytes");
         return;
     };
-    let n = lines::least(count, buffer.len());
-    let k = lines::least(long, list.len());
+    let n = numbers::min(count, buffer.len());
+    let k = numbers::min(long, list.len());
     filled(
         d,
         port,
@@ -249,9 +253,9 @@ pub fn call(
     memory: &mut [u8],
     buffer: &mut [u8],
     list: &mut [u16],
-    flows: &mut [[u32; 16]; 256],
-    heads: &mut [[u32; 3]; 128],
-    members: &mut [[u16; 62]; 128],
+    flows: &mut FlowRows,
+    heads: &mut GroupHeads,
+    members: &mut GroupMembers,
 ) -> Device {
     let name = text::word(s, 0);
     if check::same(name, b"work") {

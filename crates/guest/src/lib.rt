@@ -29,7 +29,7 @@ fn resize(size: usize, s: &[u8], line: u64, memory: &mut [u8]) -> usize {
         print::complain(line, b"N is at most 1048576");
         return size;
     }
-    let after = lines::least(n.a as usize, memory.len());
+    let after = numbers::min(n.a as usize, memory.len());
     clear(&mut memory[0..after]);
     after
 }
@@ -109,7 +109,7 @@ pub fn call(size: usize, s: &[u8], line: u64, memory: &mut [u8]) -> Guest {
             size: after,
         };
     }
-    let n = lines::least(size, memory.len());
+    let n = numbers::min(size, memory.len());
     let taken = reach(s, line, &mut memory[0..n]);
     Guest {
         taken: taken,

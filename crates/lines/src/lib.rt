@@ -3,7 +3,6 @@
 pub mod print;
 
 use libc::STDIN_FILENO;
-ghost use Prim.Native.Nat.{_≤_};
 
 // How far the bytes that were read are used up, and how many they are; the number of the line under way, its bytes so far, whether
 // it is too long and whether it is whole; whether there may be more to read.
@@ -86,11 +85,4 @@ pub fn take(r: Reader, input: &mut [u8], line: &mut [u8]) -> Reader {
         turns -= 1;
     }
     q
-}
-
-// The smaller of two lengths.
-pub fn least(n: usize, most: usize) -> usize
-    ensures { λ r. ⌜ r ≤ most ⌝ }
-{
-    if n < most { n } else { most }
 }

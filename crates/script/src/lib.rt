@@ -4,6 +4,12 @@
 use lines::Reader;
 use lines::print;
 use rules::Device;
+use rules::FlowRows;
+use rules::GroupHeads;
+use rules::GroupMembers;
+use rules::MAX_FLOWS;
+use rules::MAX_GROUPS;
+use rules::MAX_MEMBERS;
 
 // The guest memory's size, and the device once there is one.
 struct Console {
@@ -24,9 +30,9 @@ fn run_fresh(
     p: Console,
     s: &[u8],
     line: u64,
-    flows: &mut [[u32; 16]; 256],
-    heads: &mut [[u32; 3]; 128],
-    members: &mut [[u16; 62]; 128],
+    flows: &mut FlowRows,
+    heads: &mut GroupHeads,
+    members: &mut GroupMembers,
 ) -> Console {
     let n = text::arguments(s, 3);
     if !n.good {
@@ -63,16 +69,16 @@ fn run_call(
     memory: &mut [u8],
     buffer: &mut [u8],
     list: &mut [u16],
-    flows: &mut [[u32; 16]; 256],
-    heads: &mut [[u32; 3]; 128],
-    members: &mut [[u16; 62]; 128],
+    flows: &mut FlowRows,
+    heads: &mut GroupHeads,
+    members: &mut GroupMembers,
 ) -> Console {
     if !p.made {
         print::complain(line, b"no device");
         return p;
     }
     let d = p.device;
-    let size = lines::least(p.memory, memory.len());
+    let size = numbers::min(p.memory, memory.len());
     let after = calls::call(
         d,
         s,
@@ -97,9 +103,9 @@ fn run_line(
     memory: &mut [u8],
     buffer: &mut [u8],
     list: &mut [u16],
-    flows: &mut [[u32; 16]; 256],
-    heads: &mut [[u32; 3]; 128],
-    members: &mut [[u16; 62]; 128],
+    flows: &mut FlowRows,
+    heads: &mut GroupHeads,
+    members: &mut GroupMembers,
 ) -> Console {
     let g = guest::call(p.memory, s, line, memory);
     if g.taken {
@@ -121,15 +127,15 @@ fn run_taken(
     memory: &mut [u8],
     buffer: &mut [u8],
     list: &mut [u16],
-    flows: &mut [[u32; 16]; 256],
-    heads: &mut [[u32; 3]; 128],
-    members: &mut [[u16; 62]; 128],
+    flows: &mut FlowRows,
+    heads: &mut GroupHeads,
+    members: &mut GroupMembers,
 ) -> Console {
     if r.long {
         print::complain(r.lines, b"longer than 65535 bytes");
         return p;
     }
-    let used = lines::least(r.used, line.len());
+    let used = numbers::min(r.used, line.len());
     let s = &line[0..used];
     if passed_over(s) {
         return p;
@@ -145,9 +151,9 @@ fn turn(
     memory: &mut [u8; 1048576],
     buffer: &mut [u8; 65536],
     list: &mut [u16; 512],
-    flows: &mut [[u32; 16]; 256],
-    heads: &mut [[u32; 3]; 128],
-    members: &mut [[u16; 62]; 128],
+    flows: &mut FlowRows,
+    heads: &mut GroupHeads,
+    members: &mut GroupMembers,
 ) -> Script {
     let before = t.reader;
     let reader = lines::take(before, input, line);
@@ -160,11 +166,7 @@ fn turn(
     }
 }
 
-fn begin(
-    flows: &mut [[u32; 16]; 256],
-    heads: &mut [[u32; 3]; 128],
-    members: &mut [[u16; 62]; 128],
-) -> Script {
+fn begin(flows: &mut FlowRows, heads: &mut GroupHeads, members: &mut GroupMembers) -> Script {
     let none = device::fresh(0, 0, flows, heads, members);
     let d = none.device;
     let reader = lines::start();
@@ -182,9 +184,9 @@ fn begin(
 // Runs the script on standard input to its end. A proved loop ends, and nothing says that the input does: the turns count down from
 // a number that no run uses up.
 pub fn run() {
-    let mut flows = [[0u32; 16]; 256];
-    let mut heads = [[0u32; 3]; 128];
-    let mut members = [[0u16; 62]; 128];
+    let mut flows = [[0u32; 16]; MAX_FLOWS];
+    let mut heads = [[0u32; 3]; MAX_GROUPS];
+    let mut members = [[0u16; MAX_MEMBERS]; MAX_GROUPS];
     let mut t = begin(&mut flows, &mut heads, &mut members);
     let mut input = [0u8; 65536];
     let mut line = [0u8; 65535];

@@ -1,3 +1,5 @@
+-- The digits so far are v, and the rest makes of v what the whole makes of 0; a number too large is found before it passes 64 bits.
+-- Assumes nothing.
 use denote.Ref.{now}
 use mathlib.Core.Path.{_≡_, _∙_}
 use lib.ListN.{length, drop, getD}
