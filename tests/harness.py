@@ -108,6 +108,7 @@ def named_lines(err):
 # ---- What is stored beside the programs that check it
 
 STORED_SCRIPTS = ("console", "payloads_run", "frames_run", "incident_run", "worked_run")
+STORED_REGISTERS = "registers_run"
 STORED_JOURNALS = "replay_run"
 
 

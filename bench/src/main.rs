@@ -63,10 +63,15 @@ impl Yardsticks {
     /// A search through 256 structs of 64 bytes for one number.
     fn scan(&self) -> f64 {
         each(200, || {
-            let wanted = black_box(1000);
-            black_box(black_box(&self.entries).iter().position(|e| e.0[0] == wanted));
+            black_box(position(black_box(&self.entries), black_box(1000)));
         })
     }
+}
+
+/// A function of its own, so that the code around it does not change how it is compiled.
+#[inline(never)]
+fn position(entries: &[Entry], wanted: u64) -> Option<usize> {
+    entries.iter().position(|e| e.0[0] == wanted)
 }
 
 /// The ns of a call, and of the yardstick beside it, 0 where it has none.

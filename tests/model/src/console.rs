@@ -1,4 +1,4 @@
-//! The two drivers that read scripts: calls of the device, and payloads alone.
+//! The drivers that read scripts: calls of the device, register calls alone, and payloads alone.
 
 use crate::device::{inside, Calls, Device};
 use crate::frame::LIST;
@@ -12,6 +12,7 @@ pub const MEMORY_LIMIT: u64 = 1_048_576;
 pub const ROOM_LIMIT: u64 = 65_536;
 pub const LIST_LIMIT: u64 = 512;
 pub const LINE_LIMIT: usize = 65_535;
+pub const REGISTERS_LINE_LIMIT: usize = 256;
 
 /// A line's outcome: text to print, nothing to print, or why it is no call.
 pub type Outcome = Result<Option<String>, String>;
@@ -74,10 +75,10 @@ fn vectors(raised: bool) -> &'static str {
     }
 }
 
-/// A line without its end; `None` for those that are passed over.
-fn text(line: &[u8]) -> Result<Option<&str>, String> {
-    if line.len() > LINE_LIMIT {
-        return Err(format!("line is over {LINE_LIMIT} bytes"));
+/// A line without its end, up to a limit; `None` for those that are passed over.
+fn text(line: &[u8], limit: usize) -> Result<Option<&str>, String> {
+    if line.len() > limit {
+        return Err(format!("line is over {limit} bytes"));
     }
     if line.is_empty() || line[0] == b'#' {
         return Ok(None);
@@ -107,7 +108,7 @@ impl<D> Default for Driver<D> {
 
 impl<D: Calls> Driver<D> {
     pub fn line(&mut self, line: &[u8]) -> Outcome {
-        let Some(text) = text(line)? else {
+        let Some(text) = text(line, LINE_LIMIT)? else {
             return Ok(None);
         };
         let words: Vec<&str> = text.split(' ').collect();
@@ -207,6 +208,24 @@ fn frame<D: Calls>(device: &D, port: u64, data: &[u8], list: usize) -> String {
     }
 }
 
+/// The register calls alone, with their names and outcomes in a script of the console, in shorter lines.
+#[derive(Clone, Debug, Default)]
+pub struct RegisterCalls {
+    pub console: Console,
+}
+
+impl RegisterCalls {
+    pub fn line(&mut self, line: &[u8]) -> Outcome {
+        let Some(text) = text(line, REGISTERS_LINE_LIMIT)? else {
+            return Ok(None);
+        };
+        match text.split(' ').next() {
+            Some("fresh" | "link" | "read" | "write") => self.console.line(line),
+            _ => Err("no call".to_string()),
+        }
+    }
+}
+
 /// Payloads alone, carried out on tables without a ring.
 #[derive(Clone, Debug, Default)]
 pub struct Execute {
@@ -215,7 +234,7 @@ pub struct Execute {
 
 impl Execute {
     pub fn line(&mut self, line: &[u8]) -> Outcome {
-        let Some(text) = text(line)? else {
+        let Some(text) = text(line, LINE_LIMIT)? else {
             return Ok(None);
         };
         let words: Vec<&str> = text.split(' ').collect();
@@ -243,7 +262,7 @@ impl Execute {
     }
 }
 
-/// Feeds a script to one of the two, a line at a time.
+/// Feeds a script to one of them, a line at a time.
 pub fn run(name: &str, mut call: impl FnMut(&[u8]) -> Outcome) -> io::Result<()> {
     let mut input = io::stdin().lock();
     let mut output = io::BufWriter::new(io::stdout().lock());

@@ -4,10 +4,12 @@
 //! can aim at the edges; the input it prints stands by itself.
 
 mod commands;
+mod evening;
 mod payloads;
 mod script;
 mod trail;
 
+pub use evening::{asks, evening, met, Ask, Evening};
 pub use payloads::payloads;
 pub use script::script;
 pub use trail::journal;

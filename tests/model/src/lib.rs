@@ -11,3 +11,4 @@ pub mod tables;
 #[cfg(test)]
 mod tests;
 pub mod tlv;
+pub mod undo;

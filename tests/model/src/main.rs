@@ -1,17 +1,29 @@
 //! The commands of the second implementation.
 
+use model::undo::{self, post};
 use model::{console, generate, journal, misread};
 use std::io::{self, Read, Write};
 use std::process::ExitCode;
 
 const USAGE: &str = "usage: model [--misread LABEL] console
+       model [--misread LABEL] registers
        model [--misread LABEL] replay [FILE]
        model [--misread LABEL] replay-all
        model [--misread LABEL] execute
        model --list-misreadings
        model generate SEED CALLS
        model generate-journal SEED
-       model generate-payloads SEED COUNT";
+       model generate-payloads SEED COUNT
+       model [--misread LABEL] undo N FILE OUT
+       model [--misread LABEL] undo-all
+       model --list-undo-misreadings
+       model [--misread LABEL] undo-check N FILE
+       model [--misread LABEL] undo-stress SEED COUNT
+       model trail SCRIPT
+       model night FILE
+       model post LIST SCRIPT
+       model generate-evening SEED
+       model generate-asks SEED";
 
 fn print(bytes: &[u8]) -> io::Result<()> {
     let mut output = io::stdout().lock();
@@ -53,11 +65,49 @@ fn list_misreadings() -> io::Result<()> {
     print(lines.concat().as_bytes())
 }
 
+/// The commands of request 2026-06; `None` if it is none of them.
+fn undo_command(words: &[&str]) -> Option<io::Result<ExitCode>> {
+    let done = |done: io::Result<()>| done.map(|()| ExitCode::SUCCESS);
+    Some(match *words {
+        ["undo", n, file, out] => undo::program::undo(console::number(n).ok()?, file, out),
+        ["undo-all"] => done(undo::program::undo_all()),
+        ["undo-check", n, file] => undo::program::check_command(console::number(n).ok()?, file),
+        ["undo-stress", seed, count] => {
+            undo::program::stress(console::number(seed).ok()?, console::number(count).ok()?)
+        }
+        ["--list-undo-misreadings"] => done(undo::program::list_misreadings()),
+        ["trail", script] => {
+            done(std::fs::read(script).and_then(|script| print(&post::trail(&script))))
+        }
+        ["night", file] => done(
+            std::fs::read(file).and_then(|trail| match post::script(&trail) {
+                Some(script) => print(script.as_bytes()),
+                None => Err(io::Error::other("the trail is cut short")),
+            }),
+        ),
+        ["post", list, script] => done(undo::program::post(list, script)),
+        ["generate-evening", seed] => {
+            done(print(&generate::evening(console::number(seed).ok()?).trail))
+        }
+        ["generate-asks", seed] => done(print(&undo::program::frames(&generate::asks(
+            console::number(seed).ok()?,
+        )))),
+        _ => return None,
+    })
+}
+
 fn main() -> ExitCode {
     let arguments: Vec<String> = std::env::args().skip(1).collect();
     let mut words: Vec<&str> = arguments.iter().map(String::as_str).collect();
-    if let ["--misread", label, "console" | "replay" | "replay-all" | "execute", ..] = words[..] {
-        if misread::choose(label).is_none() {
+    if let ["--misread", label, command, ..] = words[..] {
+        let known = match command {
+            "console" | "registers" | "replay" | "replay-all" | "execute" => misread::choose(label),
+            "undo" | "undo-all" | "undo-check" | "undo-stress" => {
+                misread::choose(label).or_else(|| undo::misread::choose(label))
+            }
+            _ => return usage(),
+        };
+        if known.is_none() {
             eprintln!("model: no misreading {label}");
             return ExitCode::from(2);
         }
@@ -65,10 +115,17 @@ fn main() -> ExitCode {
     }
     let seeded =
         |seed: &str, count: &str| Some((console::number(seed).ok()?, console::number(count).ok()?));
+    if let Some(done) = undo_command(&words) {
+        return ended(done);
+    }
     let done = match words[..] {
         ["console"] => {
             let mut console = console::Console::default();
             console::run("console", |line| console.line(line))
+        }
+        ["registers"] => {
+            let mut calls = console::RegisterCalls::default();
+            console::run("registers", |line| calls.line(line))
         }
         ["execute"] => {
             let mut execute = console::Execute::default();
@@ -91,8 +148,12 @@ fn main() -> ExitCode {
         },
         _ => return usage(),
     };
+    ended(done.map(|()| ExitCode::SUCCESS))
+}
+
+fn ended(done: io::Result<ExitCode>) -> ExitCode {
     match done {
-        Ok(()) => ExitCode::SUCCESS,
+        Ok(code) => code,
         // Whoever reads the output may stop early.
         Err(error) if error.kind() == io::ErrorKind::BrokenPipe => ExitCode::SUCCESS,
         Err(error) => {

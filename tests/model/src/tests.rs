@@ -5,6 +5,7 @@ mod commands;
 mod coverage;
 mod frames;
 mod trail;
+mod undo;
 
 /// TLVs in a row with zero pad and fill.
 fn tlvs(fields: &[(u32, &[u8])]) -> Vec<u8> {

@@ -79,7 +79,7 @@ pub fn journal(seed: u64) -> Vec<u8> {
 }
 
 /// Cut in the header, in a line's head, in its payload, or between two lines.
-fn cut(rng: &mut Rng, header: &[u8], lines: &[Vec<u8>]) -> Vec<u8> {
+pub fn cut(rng: &mut Rng, header: &[u8], lines: &[Vec<u8>]) -> Vec<u8> {
     let whole: Vec<u8> = [header, &lines.concat()[..]].concat();
     let at = if lines.is_empty() || rng.chance(20) {
         rng.range(0, 6) as usize
@@ -96,7 +96,7 @@ fn cut(rng: &mut Rng, header: &[u8], lines: &[Vec<u8>]) -> Vec<u8> {
     whole[..at].to_vec()
 }
 
-fn spoil_header(rng: &mut Rng, header: &mut Vec<u8>) {
+pub fn spoil_header(rng: &mut Rng, header: &mut Vec<u8>) {
     let bit = 1 << rng.range(0, 7);
     match rng.range(0, 6) {
         0 => header[rng.index(3)] ^= bit,
@@ -110,7 +110,7 @@ fn spoil_header(rng: &mut Rng, header: &mut Vec<u8>) {
 }
 
 /// Makes one line disagree, in one of the ways there are.
-fn spoil_lines(rng: &mut Rng, lines: &mut Vec<Vec<u8>>, tables: &Tables) {
+pub fn spoil_lines(rng: &mut Rng, lines: &mut Vec<Vec<u8>>, tables: &Tables) {
     if lines.is_empty() {
         lines.push(journal::line(0x8000, 0, &[]));
         return;

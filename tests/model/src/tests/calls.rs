@@ -1,5 +1,5 @@
 use super::*;
-use crate::console::{bytes, hex, number, Console, Execute};
+use crate::console::{bytes, hex, number, Console, Execute, RegisterCalls};
 use crate::device::{Device, Worked};
 use crate::registers::Refusal;
 
@@ -282,6 +282,29 @@ fn the_console() {
     assert!(console.line(&[b'#'; 65_536]).is_err());
     assert!(console.line(&[b'#', 0xff]).is_ok());
     assert!(console.line(&[0xff]).is_err());
+}
+
+#[test]
+fn register_calls_alone() {
+    let mut calls = RegisterCalls::default();
+    let mut line = |text: &str| calls.line(text.as_bytes());
+    assert_eq!(line("fresh 4 0x10"), Ok(Some("0".to_string())));
+    assert_eq!(line("link 5 1"), Ok(Some("7".to_string())));
+    assert_eq!(line("read 8 0x320"), Ok(Some("0 16".to_string())));
+    assert_eq!(line("write 4 0x1008 3"), Ok(Some("2 -".to_string())));
+    for other in [
+        "memory 8",
+        "poke 0 -",
+        "peek 0 0",
+        "work 6",
+        "frame 1 -",
+        "header 6",
+    ] {
+        assert!(line(other).is_err(), "{other}");
+    }
+    assert_eq!(line(&format!("#{}", "-".repeat(255))), Ok(None));
+    assert!(line(&format!("#{}", "-".repeat(256))).is_err());
+    assert_eq!(line(""), Ok(None));
 }
 
 #[test]
