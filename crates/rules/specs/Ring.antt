@@ -1,5 +1,5 @@
--- "Registers": what a ring's six registers read, and what a write of each needs and does. The rules speak of "a ring", so that they
--- serve whichever ring holds one.
+-- "Registers": what a ring's six registers read, and what a write of each needs and does. The rules are over any ring, and serve
+-- whichever holds one.
 use Prim.Native.Nat.{ℕ, zero, suc, _+_, _-_, _%_, _^_}
 use mathlib.Core.Bool.{Bool, true, false, not, _&&_, _||_}
 use lib.Dec.{ltb, leb, eqb}
