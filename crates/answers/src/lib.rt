@@ -23,6 +23,8 @@ pub fn number(answer: Answer) -> u64
         Answer::BadVersion => 12,
         Answer::BadPortCount => 13,
         Answer::RecordDisagrees => 14,
+        Answer::TooFewRecords => 15,
+        Answer::RoomShort => 16,
     }
 }
 

@@ -4,9 +4,9 @@ use Prim.Native.Nat.{_≤_}
 use native.Mathlib.Omega.{arith}
 use Rattle.rules.specs.Answers.{number}
 use Rattle.rules.specs.declared.Answer.{Answer}
-use Rattle.rules.specs.declared.Answer.the-variants.{Done, AccessNotAllowed, ValueNotAllowed, RingEmpty, CreditsFull, DescriptorOutside, BufferShort, PortNotAllowed, NotAFrame, ListShort, CutShort, BadMark, BadVersion, BadPortCount, RecordDisagrees}
+use Rattle.rules.specs.declared.Answer.the-variants.{Done, AccessNotAllowed, ValueNotAllowed, RingEmpty, CreditsFull, DescriptorOutside, BufferShort, PortNotAllowed, NotAFrame, ListShort, CutShort, BadMark, BadVersion, BadPortCount, RecordDisagrees, TooFewRecords, RoomShort}
 
-pub answer-small : (a : Answer) → number a ≤ 14
+pub answer-small : (a : Answer) → number a ≤ 16
 unfolding number
 answer-small Done = omega arith
 answer-small AccessNotAllowed = omega arith
@@ -23,3 +23,5 @@ answer-small BadMark = omega arith
 answer-small BadVersion = omega arith
 answer-small BadPortCount = omega arith
 answer-small RecordDisagrees = omega arith
+answer-small TooFewRecords = omega arith
+answer-small RoomShort = omega arith

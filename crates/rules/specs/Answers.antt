@@ -1,7 +1,7 @@
 -- "Answer numbers", and the codes of "Work: one slot".
 use Prim.Native.Nat.{ℕ}
 use Rattle.rules.specs.declared.Answer.{Answer}
-use Rattle.rules.specs.declared.Answer.the-variants.{Done, AccessNotAllowed, ValueNotAllowed, RingEmpty, CreditsFull, DescriptorOutside, BufferShort, PortNotAllowed, NotAFrame, ListShort, CutShort, BadMark, BadVersion, BadPortCount, RecordDisagrees}
+use Rattle.rules.specs.declared.Answer.the-variants.{Done, AccessNotAllowed, ValueNotAllowed, RingEmpty, CreditsFull, DescriptorOutside, BufferShort, PortNotAllowed, NotAFrame, ListShort, CutShort, BadMark, BadVersion, BadPortCount, RecordDisagrees, TooFewRecords, RoomShort}
 use Rattle.rules.specs.declared.Status.{Status}
 use Rattle.rules.specs.declared.Status.the-variants.{Ok, Enoent, Enxio, Enomem, Eexist, Einval, Emsgsize, Enotsup}
 
@@ -22,6 +22,9 @@ number BadMark = 11
 number BadVersion = 12
 number BadPortCount = 13
 number RecordDisagrees = 14
+-- request 2026-06: fewer records than those asked for; a list that its room is too small for
+number TooFewRecords = 15
+number RoomShort = 16
 
 -- the "Codes" of a completed command
 unfoldable pub code : Status → ℕ

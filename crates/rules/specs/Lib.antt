@@ -1,4 +1,5 @@
--- Document 01 as definitions, in the paper's order; a chapter is one file or several (docs/ARCHITECTURE.md).
+-- Document 01 as definitions, in the paper's order, with document 02's request 2026-06 (Encode, Undo) after the trail; a chapter is one
+-- file or several (docs/ARCHITECTURE.md).
 pub mod Choose
 pub mod Answers
 pub mod Limits
@@ -19,5 +20,7 @@ pub mod Places
 pub mod Tables
 pub mod Frame
 pub mod Journal
+pub mod Encode
+pub mod Undo
 pub mod Told
 pub mod Switch

@@ -16,6 +16,10 @@ use Rattle.rules.specs.declared.Found.the-variants.{Absent, At, Fault}
 unfoldable pub valueSize : ℕ → ℕ
 valueSize field = field
 
+-- its counterpart: the length field of a TLV whose value has n bytes
+unfoldable pub lengthField : ℕ → ℕ
+lengthField n = n
+
 -- a length with its fill: "a multiple of 8"
 unfoldable pub filled : ℕ → ℕ
 filled n = (n + 7) / 8 * 8

@@ -19,6 +19,8 @@ pub enum Answer {
     BadVersion,
     BadPortCount,
     RecordDisagrees,
+    TooFewRecords,
+    RoomShort,
 }
 
 // How a command ended. `code` in specs/Answers.antt gives document 01's code of each.
