@@ -1,0 +1,3 @@
+-- Encoded regions, and the entries that decoding admits.
+pub mod Placed
+pub mod Admitted
