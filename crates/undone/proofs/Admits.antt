@@ -1,0 +1,448 @@
+-- What decoding gives is admitted: numbers fit since bytes do, a field that is not there reads 0, and the tests of decoding are those of an
+-- admitted entry. Changes of a table keep what holds of each entry, so every payload of bytes keeps admitted tables.
+-- Assumes nothing.
+use Prim.Native.Nat.{ℕ, zero, suc, _+_, _≤_, _<_, _^_}
+use mathlib.Core.Bool.{Bool, true, false, not, _&&_, _||_}
+use mathlib.Core.Path.{_≡_, refl, sym, _∙_}
+use mathlib.Core.List.{List, [], _∷_, _++_, append-assoc, append-nil}
+use native.Mathlib.Omega.{arith}
+use native.Mathlib.Nat.{one-le-pow}
+use lib.Dec.{ltb, leb, eqb, lit<}
+use lib.ListN.{length, getD, take, drop}
+use lib.Seq.{getD-drop}
+use borrow.Author.Tests.{eqb-true, leb-true, not-true}
+use Rattle.rules.specs.Choose.{choose}
+use Rattle.rules.specs.Limits.{maxPorts}
+use Rattle.rules.specs.Answers.{code}
+use Rattle.rules.specs.Bytes.{leAt, part, swap16}
+use Rattle.rules.specs.Fields.{rows, ruleIn, ruleOf, field, given, value, isAt, numberIn, nestIn, fieldsRight}
+use Rattle.rules.specs.Region.{tlvs, wellFormed}
+use Rattle.rules.specs.Keyed.{insert, replace, remove}
+use Rattle.rules.specs.GroupId.{groupType, groupVlan, groupLow, vlanAllowed, groupIdAllowed}
+use Rattle.rules.specs.Members.{elem, memberRight, collect, membersIn, membersRight, pad}
+use Rattle.rules.specs.Decode.{newVlanFits, matchAllowed, matchOf, flowOf, flowUser, isTable, flowIn, flowKeyIn, groupOf, membersOf, groupAllowed, groupUser, groupIn, groupKeyIn, refused, carried, need, commandIn, commandInfo, decode}
+use Rattle.rules.specs.Tables.{Tables, storedFlow, flowEntry, groupEntry, cookieOf, idOf, emptyTables, withFlows, withGroups, commandEffect, decodedStatus, decodedEffect, executed, carryOut, execute}
+use Rattle.rules.specs.declared.Terms.{Terms}
+use Rattle.rules.specs.declared.Tlv.{Tlv}
+use Rattle.rules.specs.declared.Found.{Found}
+use Rattle.rules.specs.declared.Found.the-variants.{Absent, At, Fault}
+use Rattle.rules.specs.declared.Match.{Match}
+use Rattle.rules.specs.declared.Match.the-variants.{IngressPort, Vlan, Bridging}
+use Rattle.rules.specs.declared.Flow.{Flow}
+use Rattle.rules.specs.declared.Group.{Group}
+use Rattle.rules.specs.declared.Status.{Status}
+use Rattle.rules.specs.declared.Status.the-variants.{Einval, Enotsup}
+use Rattle.rules.specs.declared.Command.{Command}
+use Rattle.rules.specs.declared.Command.the-variants.{FlowAdd, FlowMod, FlowDel, GroupAdd, GroupMod, GroupDel}
+use Rattle.rules.specs.declared.Decoded.{Decoded}
+use Rattle.rules.specs.declared.Decoded.the-variants.{Carry, Refused}
+use Rattle.rules.specs.declared.Decoding.{Decoding}
+use Rattle.rules.specs.declared.GroupEntry.{GroupEntry}
+use Rattle.rules.proofs.Cases.{by-test, by-eq, and-left, and-right, not-both}
+use Rattle.rules.proofs.Bytes.{leAt-below}
+use Rattle.rules.proofs.GroupId.{low-below}
+use Rattle.encoded.specs.Admitted.{AreBytes, matchIn, flowIn as storedFrom, hasNew, FlowAdmitted, Fresh, GroupAdmitted, Each, Admitted}
+
+-- ---- Parts of bytes are bytes
+
+pub bytes-drop : (n : ℕ) (s : List ℕ) → AreBytes s → AreBytes (drop n s)
+bytes-drop n s b = λ j. rw getD-drop (b (n + j))
+
+bytes-cons : (x : ℕ) (s : List ℕ) → x < 256 → AreBytes s → (j : ℕ) → getD (x ∷ s) j 0 < 256
+bytes-cons x s h b zero = h
+bytes-cons x s h b (suc j) = b j
+
+pub bytes-take : (n : ℕ) (s : List ℕ) → AreBytes s → AreBytes (take n s)
+bytes-take zero s b = λ j. lit< tt
+bytes-take (suc n) [] b = b
+bytes-take (suc n) (x ∷ s) b = bytes-cons x (take n s) (b 0) (bytes-take n s (λ j. b (suc j)))
+
+bytes-nest : (s : List ℕ) (f : Found) → AreBytes s → AreBytes (nestIn s f)
+unfolding nestIn part
+bytes-nest s Absent b = λ j. lit< tt
+bytes-nest s (At a n) b = bytes-take n (drop a s) (bytes-drop a s b)
+bytes-nest s Fault b = λ j. lit< tt
+
+-- ---- Numbers of a region
+
+number-below : (s : List ℕ) (w : ℕ) (f : Found) → AreBytes s → numberIn s w f < 256 ^ w
+unfolding numberIn
+number-below s w Absent b = one-le-pow w 256 (lit< tt)
+number-below s w (At a n) b = leAt-below w s a b
+number-below s w Fault b = one-le-pow w 256 (lit< tt)
+
+value-below : (s : List ℕ) (t : ℕ) → AreBytes s → value s t < 256 ^ ruleOf t .width
+unfolding value
+value-below s t b = number-below s (ruleOf t .width) (field s t) b
+
+number-missing : (s : List ℕ) (w : ℕ) (f : Found) → isAt f ≡ false → numberIn s w f ≡ 0
+unfolding numberIn isAt
+number-missing s w Absent e = refl
+number-missing s w (At a n) e = not-both e
+number-missing s w Fault e = refl
+
+-- what is not given reads 0
+value-missing : (s : List ℕ) (t : ℕ) → given s t ≡ false → value s t ≡ 0
+unfolding value given
+value-missing s t e = number-missing s (ruleOf t .width) (field s t) e
+
+swap-below : (v : ℕ) → swap16 v < 2 ^ 16
+unfolding swap16
+swap-below v = omega arith
+
+-- ---- Flows
+
+-- the fields that every table has
+record CommonFits (f : Flow) : Type 0 where
+  cookie-fits : f .cookie < 2 ^ 64
+  priority-fits : f .priority < 2 ^ 32
+  hardtime-fits : f .hardtime < 2 ^ 32
+  idletime-fits : f .idletime < 2 ^ 32
+  goto-fits : f .«goto_tbl» < 2 ^ 16
+
+-- those of one table, given whether NEW_VLAN_ID is there
+abbrev MatchFits : Bool → Match → Type 0
+MatchFits new (IngressPort p m) = (p < 2 ^ 32) × (m < 2 ^ 32)
+MatchFits new (Vlan p v n) = (p < 2 ^ 32) × (v < 2 ^ 16) × (n < 2 ^ 16) × (new ≡ false → n ≡ 0)
+MatchFits new (Bridging v hm m hg id) = (v < 2 ^ 16) × (m < 2 ^ 48) × (id < 2 ^ 32) × (hm ≡ false → m ≡ 0) × (hg ≡ false → id ≡ 0)
+
+common-fits : (s : List ℕ) (t : ℕ) → AreBytes s → CommonFits (flowOf s t)
+unfolding flowOf ruleOf ruleIn rows
+common-fits s t b =
+    record {
+      cookie-fits = value-below s 5 b;
+      priority-fits = value-below s 2 b;
+      hardtime-fits = value-below s 3 b;
+      idletime-fits = value-below s 4 b;
+      goto-fits = value-below s 9 b;
+    }
+
+swap-zero : (v : ℕ) → v ≡ 0 → swap16 v ≡ 0
+unfolding swap16
+swap-zero v e = omega arith
+
+match-fits : (s : List ℕ) (t : ℕ) → AreBytes s → MatchFits (given s 19) (matchOf s t)
+unfolding matchOf ruleOf ruleIn rows
+match-fits s t b =
+    by-test (eqb t 0)
+    (λ p. rw p (value-below s 6 b, value-below s 7 b))
+    (λ p. by-test (eqb t 10)
+    (λ q. rw (p, q) (value-below s 6 b, swap-below (value s 14), swap-below (value s 19), λ e. swap-zero (value s 19) (value-missing s 19 e)))
+    (λ q. rw (p, q) (swap-below (value s 14), value-below s 24 b, value-below s 10 b, value-missing s 24, value-missing s 10)))
+
+-- NEW_VLAN_ID is there exactly if VLAN_ID is 0
+new-there : (v : ℕ) (new : Bool) (n : ℕ) → newVlanFits v new n ≡ true → new ≡ eqb v 0
+unfolding newVlanFits
+new-there v new n e =
+    by-test (eqb v 0)
+    (λ p. rw p (and-left new (vlanAllowed n) (simp p at e)))
+    (λ p. rw p (not-true new (and-left (not new) (vlanAllowed v) (simp p at e))))
+
+stored-admits : (terms : Terms) (f : Flow) (new : Bool) (m : Match) → CommonFits f → MatchFits new m
+    → matchAllowed terms (f .«goto_tbl») new m ≡ true → FlowAdmitted terms (storedFlow f m)
+unfolding storedFlow flowEntry storedFrom matchIn hasNew isTable matchAllowed
+stored-admits terms f new (IngressPort p m) c h e =
+    record {
+      is-table = refl;
+      cookie-fits = c .cookie-fits;
+      mac-fits = lit< tt;
+      priority-fits = c .priority-fits;
+      hardtime-fits = c .hardtime-fits;
+      idletime-fits = c .idletime-fits;
+      port-fits = h .0;
+      mask-fits = h .1;
+      group-fits = lit< tt;
+      goto-fits = c .goto-fits;
+      vlan-fits = lit< tt;
+      new-fits = lit< tt;
+      stored = refl;
+      no-new = λ x. refl;
+      no-mac = λ x. refl;
+      no-group = λ x. refl;
+      allowed = e;
+    }
+stored-admits terms f new (Vlan p v n) c h e =
+    let goto = eqb (f .«goto_tbl») 20 || eqb (f .«goto_tbl») 0 in
+    let there : new ≡ eqb v 0 = new-there v new n (and-right (leb 1 p && leb p (terms .ports) && goto) (newVlanFits v new n) e) in
+    record {
+      is-table = refl;
+      cookie-fits = c .cookie-fits;
+      mac-fits = lit< tt;
+      priority-fits = c .priority-fits;
+      hardtime-fits = c .hardtime-fits;
+      idletime-fits = c .idletime-fits;
+      port-fits = h .0;
+      mask-fits = lit< tt;
+      group-fits = lit< tt;
+      goto-fits = c .goto-fits;
+      vlan-fits = h .1;
+      new-fits = h .2;
+      stored = refl;
+      no-new = λ x. h .3 (there ∙ x);
+      no-mac = λ x. refl;
+      no-group = λ x. refl;
+      allowed = rw (← there) e;
+    }
+stored-admits terms f new (Bridging v hm m hg id) c h e =
+    record {
+      is-table = refl;
+      cookie-fits = c .cookie-fits;
+      mac-fits = h .1;
+      priority-fits = c .priority-fits;
+      hardtime-fits = c .hardtime-fits;
+      idletime-fits = c .idletime-fits;
+      port-fits = lit< tt;
+      mask-fits = lit< tt;
+      group-fits = h .2;
+      goto-fits = c .goto-fits;
+      vlan-fits = h .0;
+      new-fits = lit< tt;
+      stored = refl;
+      no-new = λ x. refl;
+      no-mac = h .3;
+      no-group = h .4;
+      allowed = e;
+    }
+
+-- ---- Members
+
+-- what collecting adds to the members before it
+record Grown (before lows : List ℕ) : Type 0 where
+  new : List ℕ
+  lows-are : lows ≡ before ++ new
+  fresh : Fresh before new
+  fits : (j : ℕ) → getD new j 0 < 2 ^ 16
+
+low-cons : (x : ℕ) (l : List ℕ) → x < 2 ^ 16 → ((j : ℕ) → getD l j 0 < 2 ^ 16) → (j : ℕ) → getD (x ∷ l) j 0 < 2 ^ 16
+low-cons x l h k zero = h
+low-cons x l h k (suc j) = k j
+
+grown-more : (before : List ℕ) (x : ℕ) (lows : List ℕ) → elem x before ≡ false → x < 2 ^ 16 → Grown (before ++ (x ∷ [])) lows → Grown before lows
+grown-more before x lows e h g =
+    record {
+      new = x ∷ g .new;
+      lows-are = g .lows-are ∙ append-assoc before (x ∷ []) (g .new);
+      fresh = (e, g .fresh);
+      fits = low-cons x (g .new) h (g .fits);
+    }
+
+-- a member is not among those before it
+member-new : (vlan n : ℕ) (x : Tlv) (id : ℕ) (there : Bool) → memberRight vlan n x id there ≡ true → there ≡ false
+unfolding memberRight
+member-new vlan n x id there e =
+    let form = ltb n maxPorts && eqb (x .kind) (n + 1) && eqb (x .size) (ruleOf (n + 1) .«member_width») in
+    not-true there (and-right (form && eqb (groupType id) 0 && eqb (groupVlan id) vlan) (not there) e)
+
+collected : (s : List ℕ) (vlan : ℕ) (before : List ℕ) (xs : List Tlv) → collect s vlan before xs .right ≡ true → Grown before (collect s vlan before xs .lows)
+unfolding collect
+collected s vlan before [] e = record { new = []; lows-are = sym (append-nil before); fresh = tt; fits = λ j. lit< tt }
+collected s vlan before (x ∷ xs) e =
+    let id = leAt 4 s (x .start) in
+    let there = elem (groupLow id) before in
+    by-test (memberRight vlan (length before) x id there)
+    (λ p. rw p (grown-more before (groupLow id) _ (member-new vlan (length before) x id there p) (low-below id)
+    (collected s vlan (before ++ (groupLow id ∷ [])) xs (simp p at e))))
+    (λ p. not-both (sym (simp p at e)))
+
+-- the members in GROUP_IDS, where decoding found them right
+members-fresh : (s : List ℕ) (vlan : ℕ) → membersIn s vlan .right ≡ true → Grown [] (membersIn s vlan .lows)
+unfolding membersIn
+members-fresh s vlan e =
+    by-test (wellFormed s) (λ p. rw p (collected s vlan [] (tlvs s 0) (simp p at e))) (λ p. not-both (sym (simp p at e)))
+
+-- ---- Groups
+
+abbrev entryOf : ℕ → Bool → ℕ → List ℕ → GroupEntry
+entryOf id pop count lows = record { id = id; «pop_vlan» = pop; «member_count» = count; members = pad lows }
+
+-- type 0
+single-admits : (terms : Terms) (id : ℕ) (pop : Bool) → id < 2 ^ 32 → groupIdAllowed id ≡ true → groupType id ≡ 0 → groupLow id ≤ terms .ports
+    → GroupAdmitted terms (entryOf id pop 0 [])
+single-admits terms id pop f a t l =
+    record {
+      id-fits = f;
+      id-allowed = a;
+      lows = [];
+      members-are = refl;
+      count-is = refl;
+      lows-fit = λ j. lit< tt;
+      fresh = tt;
+      at-most = omega arith;
+      single = λ e. (refl, l);
+      many = λ n. absurd (n t);
+    }
+
+-- types 3 and 4
+many-admits : (terms : Terms) (id count : ℕ) (lows : List ℕ) → id < 2 ^ 32 → groupIdAllowed id ≡ true → (groupType id ≡ 0 → ⊥) → Grown [] lows
+    → 1 ≤ count → count ≤ maxPorts → length lows ≡ count → GroupAdmitted terms (entryOf id false count lows)
+many-admits terms id count lows f a t g lo hi n =
+    record {
+      id-fits = f;
+      id-allowed = a;
+      lows = lows;
+      members-are = refl;
+      count-is = sym n;
+      lows-fit = rw (g .lows-are) (g .fits);
+      fresh = rw (g .lows-are) (g .fresh);
+      at-most = omega arith;
+      single = λ e. absurd (t e);
+      many = λ x. (omega arith, refl);
+    }
+
+group-admits : (terms : Terms) (s : List ℕ) (id : ℕ) → id < 2 ^ 32 → groupAllowed terms s id (membersOf s id) ≡ true
+    → GroupAdmitted terms (groupEntry (groupOf s id) (pad (membersOf s id .lows)))
+unfolding groupEntry groupOf membersOf groupAllowed membersRight
+group-admits terms s id f e =
+    by-eq (groupType id) 0
+    (λ t p.
+    let x = simp p at e in
+    let a = and-left (groupIdAllowed id) _ x in
+    let ranges = eqb (value s 8) (groupLow id) && leb (value s 8) (terms .ports) in
+    let b = and-left ranges (leb (value s 43) 1) (and-right (groupIdAllowed id) _ x) in
+    let same = eqb-true (value s 8) (groupLow id) (and-left _ (leb (value s 8) (terms .ports)) b) in
+    let low = leb-true (value s 8) (terms .ports) (and-right (eqb (value s 8) (groupLow id)) _ b) in
+    rw p (single-admits terms id (eqb (value s 43) 1) f a t (omega arith)))
+    (λ t p.
+    let x = simp p at e in
+    let c = membersIn (nestIn s (field s 13)) (groupVlan id) in
+    let n = value s 12 in
+    let a = and-left (groupIdAllowed id) _ x in
+    let b = and-right (groupIdAllowed id) (c .right && leb 1 n && leb n maxPorts && eqb (length (c .lows)) n) x in
+    let same = eqb-true (length (c .lows)) n (and-right (c .right && leb 1 n && leb n maxPorts) _ b) in
+    let d = and-left (c .right && leb 1 n && leb n maxPorts) (eqb (length (c .lows)) n) b in
+    let hi = leb-true n maxPorts (and-right (c .right && leb 1 n) _ d) in
+    let g = and-left (c .right && leb 1 n) (leb n maxPorts) d in
+    rw p
+    (many-admits terms id n (c .lows) f a t (members-fresh (nestIn s (field s 13)) (groupVlan id) (and-left (c .right) (leb 1 n) g))
+    (leb-true 1 n (and-right (c .right) (leb 1 n) g)) hi same))
+
+-- ---- Payloads
+
+-- what a command stores, with the members beside it, is admitted
+abbrev Stores : Terms → List ℕ → Command → Type 0
+Stores terms m (FlowAdd f) = FlowAdmitted terms (flowEntry f)
+Stores terms m (FlowMod f) = FlowAdmitted terms (flowEntry f)
+Stores terms m (FlowDel k) = Unit
+Stores terms m (GroupAdd g) = GroupAdmitted terms (groupEntry g m)
+Stores terms m (GroupMod g) = GroupAdmitted terms (groupEntry g m)
+Stores terms m (GroupDel k) = Unit
+
+abbrev StoresBy : Terms → List ℕ → Decoded → Type 0
+StoresBy terms m (Carry c) = Stores terms m c
+StoresBy terms m (Refused e) = Unit
+
+abbrev Gives : Terms → Decoding → Type 0
+Gives terms d = StoresBy terms (d .members) (d .what)
+
+need-gives : (terms : Terms) (test : Bool) (e : Status) (d : Decoding) → (test ≡ true → Gives terms d) → Gives terms (need test e d)
+unfolding need refused
+need-gives terms true e d h = h refl
+need-gives terms false e d h = tt
+
+flow-gives : (terms : Terms) (s : List ℕ) (make : Flow → Command) → AreBytes s
+    → ((f : Flow) (m : List ℕ) → FlowAdmitted terms (flowEntry f) → Stores terms m (make f)) → Gives terms (flowIn terms s make)
+unfolding flowIn carried flowEntry flowOf
+flow-gives terms s make b h =
+    let t = value s 1 in
+    let allowed = matchAllowed terms (value s 9) (given s 19) (matchOf s t) in
+    need-gives terms (given s 1) Einval _
+    (λ p. need-gives terms (isTable t) Enotsup _
+    (λ q. need-gives terms (fieldsRight s (flowUser t) && allowed) Einval _
+    (λ r. h (flowOf s t) (pad [])
+    (stored-admits terms (flowOf s t) (given s 19) (matchOf s t) (common-fits s t b) (match-fits s t b) (and-right (fieldsRight s (flowUser t)) allowed r)))))
+
+group-gives : (terms : Terms) (s : List ℕ) (make : Group → Command) → AreBytes s
+    → ((g : Group) (m : List ℕ) → GroupAdmitted terms (groupEntry g m) → Stores terms m (make g)) → Gives terms (groupIn terms s make)
+unfolding groupIn carried ruleOf ruleIn rows
+group-gives terms s make b h =
+    let id = value s 10 in
+    let allowed = groupAllowed terms s id (membersOf s id) in
+    need-gives terms (fieldsRight s (groupUser id) && allowed) Einval _
+    (λ p. h (groupOf s id) (pad (membersOf s id .lows)) (group-admits terms s id (value-below s 10 b) (and-right (fieldsRight s (groupUser id)) allowed p)))
+
+flow-key-gives : (terms : Terms) (s : List ℕ) → Gives terms (flowKeyIn s)
+unfolding flowKeyIn carried
+flow-key-gives terms s = need-gives terms _ Einval _ (λ p. tt)
+
+group-key-gives : (terms : Terms) (s : List ℕ) → Gives terms (groupKeyIn s)
+unfolding groupKeyIn carried
+group-key-gives terms s = need-gives terms _ Einval _ (λ p. tt)
+
+either : (terms : Terms) (t : Bool) (a b : Decoding) → Gives terms a → Gives terms b → Gives terms (choose t a b)
+either terms true a b h k = h
+either terms false a b h k = k
+
+command-gives : (terms : Terms) (c : ℕ) (s : List ℕ) → AreBytes s → Gives terms (commandIn terms c s)
+unfolding commandIn
+command-gives terms c s b =
+    either terms (eqb c 3) _ _ (flow-gives terms s FlowAdd b (λ f m h. h))
+    (either terms (eqb c 4) _ _ (flow-gives terms s FlowMod b (λ f m h. h))
+    (either terms (eqb c 5) _ _ (flow-key-gives terms s)
+    (either terms (eqb c 7) _ _ (group-gives terms s GroupAdd b (λ g m h. h))
+    (either terms (eqb c 8) _ _ (group-gives terms s GroupMod b (λ g m h. h)) (group-key-gives terms s)))))
+
+decode-gives : (terms : Terms) (s : List ℕ) → AreBytes s → Gives terms (decode terms s)
+unfolding decode
+decode-gives terms s b =
+    need-gives terms _ Einval _
+    (λ p. need-gives terms _ Enotsup _
+    (λ q. need-gives terms _ Einval _ (λ r. command-gives terms _ (nestIn s (commandInfo s)) (bytes-nest s (commandInfo s) b))))
+
+-- ---- Tables
+
+-- a change of a table keeps what holds of each entry
+module _ {A : Type 0} (key : A → ℕ) (P : A → Type 0) where
+  pub each-insert : (e : A) (l : List A) → P e → Each P l → Each P (insert key e l)
+  unfolding insert
+  each-insert e [] p h = (p, tt)
+  each-insert e (g ∷ gs) p h =
+      by-test (ltb (key g) (key e)) (λ t. rw t (h .0, each-insert e gs p (h .1))) (λ t. rw t (p, h))
+
+  pub each-replace : (e : A) (l : List A) → P e → Each P l → Each P (replace key e l)
+  unfolding replace
+  each-replace e [] p h = tt
+  each-replace e (g ∷ gs) p h =
+      by-test (ltb (key g) (key e))
+      (λ t. rw t (h .0, each-replace e gs p (h .1)))
+      (λ t. by-test (eqb (key g) (key e)) (λ u. rw (t, u) (p, h .1)) (λ u. rw (t, u) h))
+
+  pub each-remove : (k : ℕ) (l : List A) → Each P l → Each P (remove key k l)
+  unfolding remove
+  each-remove k [] h = tt
+  each-remove k (g ∷ gs) h =
+      by-test (ltb (key g) k)
+      (λ t. rw t (h .0, each-remove k gs (h .1)))
+      (λ t. by-test (eqb (key g) k) (λ u. rw (t, u) (h .1)) (λ u. rw (t, u) h))
+
+effect-admits : (terms : Terms) (t : Tables) (c : Command) (m : List ℕ) → Admitted terms t → Stores terms m c → Admitted terms (commandEffect t c m)
+unfolding commandEffect withFlows withGroups
+effect-admits terms t (FlowAdd f) m a s =
+    record { flows-are = each-insert cookieOf (FlowAdmitted terms) (flowEntry f) (t .flows) s (a .flows-are); groups-are = a .groups-are }
+effect-admits terms t (FlowMod f) m a s =
+    record { flows-are = each-replace cookieOf (FlowAdmitted terms) (flowEntry f) (t .flows) s (a .flows-are); groups-are = a .groups-are }
+effect-admits terms t (FlowDel k) m a s =
+    record { flows-are = each-remove cookieOf (FlowAdmitted terms) k (t .flows) (a .flows-are); groups-are = a .groups-are }
+effect-admits terms t (GroupAdd g) m a s =
+    record { flows-are = a .flows-are; groups-are = each-insert idOf (GroupAdmitted terms) (groupEntry g m) (t .groups) s (a .groups-are) }
+effect-admits terms t (GroupMod g) m a s =
+    record { flows-are = a .flows-are; groups-are = each-replace idOf (GroupAdmitted terms) (groupEntry g m) (t .groups) s (a .groups-are) }
+effect-admits terms t (GroupDel k) m a s =
+    record { flows-are = a .flows-are; groups-are = each-remove idOf (GroupAdmitted terms) k (t .groups) (a .groups-are) }
+
+decoded-admits : (terms : Terms) (t : Tables) (w : Decoded) (m : List ℕ) → Admitted terms t → StoresBy terms m w → Admitted terms (decodedEffect t w m)
+unfolding decodedEffect
+decoded-admits terms t (Carry c) m a s = effect-admits terms t c m a s
+decoded-admits terms t (Refused e) m a s = a
+
+pub empty-admits : (terms : Terms) → Admitted terms emptyTables
+unfolding emptyTables
+empty-admits terms = record { flows-are = tt; groups-are = tt }
+
+-- THE LAW: every payload of bytes keeps admitted tables
+pub execute-admits : (terms : Terms) (payload : List ℕ) (t : Tables) → AreBytes payload → Admitted terms t → Admitted terms (execute terms payload t .tables)
+unfolding execute carryOut executed
+execute-admits terms payload t b a =
+    let d = decode terms payload in
+    by-test (eqb (code (decodedStatus t (d .what))) 0)
+    (λ p. rw p (decoded-admits terms t (d .what) (d .members) a (decode-gives terms payload b)))
+    (λ p. rw p a)

@@ -1,0 +1,3 @@
+-- What undoing a journal promises.
+pub mod Carried
+pub mod Claim
