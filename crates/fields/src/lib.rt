@@ -301,7 +301,7 @@ fn right(needed: bool, f: Found) -> bool
     }
 }
 
-fn has_user(set: u8, who: u8) -> bool
+pub fn has_user(set: u8, who: u8) -> bool
     ensures { λ r. ⌜ r ≡ hasUser set who ⌝ }
 {
     set & who != 0

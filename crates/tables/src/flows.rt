@@ -15,7 +15,7 @@ ghost use Rattle.rules.specs.Limits.{maxFlows};
 
 // The first of the live flows whose cookie is not lower, or behind the last. The length of a lent array is told where it is lent as a
 // slice, and nowhere else: `all` is there for that.
-pub(crate) fn flow_find(rows: &FlowRows, count: usize, key: u64) -> Place
+pub fn flow_find(rows: &FlowRows, count: usize, key: u64) -> Place
     ensures { λ r. ⌜ (length (now (rows .entry)) ≡ maxFlows) × Sought cookieIn maxFlows key (r .live) (take count (now (rows .entry))) (r .at) (r .held) ⌝ }
 {
     let all = &rows[..];

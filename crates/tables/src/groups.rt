@@ -15,12 +15,7 @@ ghost use Rattle.tables.specs.Groups.{groupPlaces, groupsIn};
 ghost use Rattle.rules.specs.Limits.{maxGroups};
 
 // The first of the live groups whose ID is not lower, or behind the last. Only heads are read; both lengths are told.
-pub(crate) fn group_find(
-    heads: &GroupHeads,
-    members: &GroupMembers,
-    count: usize,
-    key: u32,
-) -> Place
+pub fn group_find(heads: &GroupHeads, members: &GroupMembers, count: usize, key: u32) -> Place
     ensures { λ r. ⌜ (length (now (heads .entry)) ≡ maxGroups) × (length (now (members .entry)) ≡ maxGroups) × Sought idIn maxGroups key (r .live) (take count (now (heads .entry))) (r .at) (r .held) ⌝ }
 {
     let all = &heads[..];

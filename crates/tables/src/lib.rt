@@ -15,9 +15,11 @@ mod groups;
 
 pub use flows::flow_add;
 pub use flows::flow_del;
+pub use flows::flow_find;
 pub use flows::flow_mod;
 pub use groups::group_add;
 pub use groups::group_del;
+pub use groups::group_find;
 pub use groups::group_mod;
 
 // Where a key belongs among the live entries, how many these are, and whether it stands there.

@@ -1,0 +1,4 @@
+pub mod Splicing
+pub mod Regions
+pub mod Written
+pub mod FieldLists
