@@ -9,15 +9,16 @@ use native.Mathlib.Nat.{pow-suc}
 use lib.ListN.{length, take, drop, set, replicate, length-append, length-set, length-drop, length-take, length-map}
 use lib.Seq.{take-all, drop-cons, drop-set-lt, getD-set-same}
 use lib.Dec.{ltb}
-use borrow.Author.Tests.{lt-ltb, le-ltb}
+use borrow.Author.Tests.{lt-ltb, le-ltb, eq-eqb, ne-eqb}
 use Rattle.rules.specs.Bytes.{splice}
 use Rattle.rules.specs.Rows.{beside}
 use Rattle.rules.specs.Places.{live}
 use Rattle.rules.specs.Tables.{liveFlows, liveGroups}
 use Rattle.rules.specs.Journal.{Progress as Rule, digits, decimal, item, line, report, wordPorts, wordLines, wordCharged, wordFlows, wordGroups, wordRefused, wordLine}
 use Rattle.rules.specs.Journal.Replayed.{Replays, Fails}
+use Rattle.rules.specs.Undo.{wordPayloads, wordBytes, undoReport}
 use Rattle.rules.proofs.Cases.{by-test}
-use Rattle.report.specs.Reporting.{Puts, Spells}
+use Rattle.report.specs.Reporting.{Puts, Spells, toldUndone}
 use Rattle.report.specs.declared.Digits.{Digits}
 use Rattle.journal.proofs.Writing.{splice-on}
 
@@ -161,6 +162,35 @@ progress-put p l₁ l₂ l₃ l₄ l₅ =
     let m₄ = puts-on 160 (omega arith) (simp length-append (omega arith)) m₃ l₄ in
     let m₅ = puts-on 160 (omega arith) (simp length-append (omega arith)) m₄ l₅ in
     puts-same 160 (simp append-assoc) (simp length-append (omega arith)) m₅
+
+-- ---- What undoing prints
+
+pub list-put : {s t u : List ℕ} {m r x y : ℕ} (count size : ℕ)
+    → Puts m t 0 (line wordPayloads count) s x
+    → Puts r u m (line wordBytes size) t y
+    → Puts r u 0 (line wordPayloads count ++ line wordBytes size) s 160
+list-put count size p q =
+    let e = line-short wordPayloads count in
+    let f = line-short wordBytes size in
+    puts-on 160 (omega arith) (simp length-append (omega arith)) p q
+
+module _ {s t : List ℕ} {r : ℕ} (answer at count size : ℕ) where
+  pub told-list : answer ≡ 0 → Puts r t 0 (line wordPayloads count ++ line wordBytes size) s 160
+      → Puts r t 0 (undoReport (toldUndone answer at count size)) s 160
+  unfolding undoReport
+  told-list e p = rw (eq-eqb answer 0 e) p
+
+  pub told-refused : {x : ℕ} → (answer ≡ 0 → ⊥) → 14 < answer → Puts r t 0 (line wordRefused answer) s x
+      → Puts r t 0 (undoReport (toldUndone answer at count size)) s 160
+  unfolding undoReport
+  told-refused e h p =
+      let f = line-short wordRefused answer in
+      rw (ne-eqb answer 0 e, lt-ltb 14 answer h) (puts-same 160 refl (omega arith) p)
+
+  pub told-fault : (answer ≡ 0 → ⊥) → answer ≤ 14 → Puts r t 0 (report (Fails answer at)) s 160
+      → Puts r t 0 (undoReport (toldUndone answer at count size)) s 160
+  unfolding undoReport
+  told-fault e h p = rw (ne-eqb answer 0 e, le-ltb 14 answer h) p
 
 -- ---- How many places are live
 

@@ -1,10 +1,11 @@
 -- Text written into a buffer.
 use Prim.Native.Nat.{ℕ, _+_, _≤_}
 use mathlib.Core.Path.{_≡_}
-use mathlib.Core.List.{List}
+use mathlib.Core.List.{List, []}
 use lib.ListN.{length, take, drop}
 use Rattle.rules.specs.Bytes.{splice}
 use Rattle.rules.specs.Journal.{decimal}
+use Rattle.rules.specs.Undo.{Undone}
 use Rattle.report.specs.declared.Digits.{Digits}
 
 -- bytes over a buffer from a position on, and where they end; there are no more than `most`
@@ -21,3 +22,7 @@ pub record Spells (r : Digits) (n : ℕ) : Type 0 where
   pub digits-are : drop (r .start) (r .bytes) ≡ decimal n
   pub within : r .start ≤ 20
   pub size : length (r .bytes) ≡ 20
+
+-- of what undoing gives, all but the room: that is not printed
+abbrev pub toldUndone : ℕ → ℕ → ℕ → ℕ → Undone
+toldUndone answer at count size = record { answer = answer; at = at; count = count; size = size; room = [] }

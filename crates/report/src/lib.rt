@@ -1,4 +1,4 @@
-// What a replay prints.
+// What a replay prints, and what undoing a journal prints.
 use journal::put_bytes;
 use replaying::reader::Progress;
 use replaying::replay::Replayed;
@@ -7,13 +7,15 @@ use rules::GroupHeads;
 use rules::GroupMembers;
 use rules::MAX_MEMBERS;
 ghost use mathlib.Core.Path.{_≡_};
+ghost use mathlib.Core.List.{_++_};
 ghost use Prim.Native.Nat.{_+_, _≤_};
 ghost use lib.ListN.{length};
 ghost use Rattle.rules.specs.Tables.{arrays, liveFlows, liveGroups};
 ghost use Rattle.rules.specs.Journal.{decimal, item, line as Journal·line, Replayed.Replays, Replayed.Fails, report as Journal·report};
+ghost use Rattle.rules.specs.Undo.{wordPayloads, wordBytes, undoReport};
 ghost use Rattle.replaying.specs.Reading.{progressOf};
 ghost use Rattle.replaying.specs.Replaying.{resultOf};
-ghost use Rattle.report.specs.Reporting.{Front, Puts, Spells};
+ghost use Rattle.report.specs.Reporting.{Front, Puts, Spells, toldUndone};
 
 // A number's digits, from a position of 20 bytes on.
 struct Digits {
@@ -133,5 +135,28 @@ pub fn report(
         put_progress(out, progress, flows, heads, members)
     } else {
         put_fault(out, n, q.at)
+    }
+}
+
+// The two lines of a list.
+fn put_list(out: &mut [u8], count: u64, size: u64) -> usize
+    requires { ⌜ 160 ≤ length (now out) ⌝ }
+    ensures { λ r. ⌜ Puts r (now (out .exit)) 0 (Journal·line wordPayloads count ++ Journal·line wordBytes size) (now (out .entry)) 160 ⌝ }
+{
+    let a = put_line(out, 0, b"payloads", count);
+    put_line(out, a, b"bytes", size)
+}
+
+// The same of an undone journal: its list's two lines, or the fault; 15 and 16 have no line of the journal.
+pub fn undone(out: &mut [u8; 160], answer: u64, at: u64, count: u64, size: u64) -> usize
+    ensures { λ r. ⌜ Puts r (now (out .exit)) 0 (undoReport (toldUndone answer at count size)) (now (out .entry)) 160 ⌝ }
+    ensures { λ r. ⌜ Front r (now (out .exit)) ⌝ }
+{
+    if answer == 0 {
+        put_list(out, count, size)
+    } else if 14 < answer {
+        put_line(out, 0, b"refused", answer)
+    } else {
+        put_fault(out, answer, at)
     }
 }
