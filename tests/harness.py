@@ -1,7 +1,7 @@
 """What tests/run and tests/damage share: both sides are built, run on the same input and compared.
 
-The sides are the proved programs (target/bin/console, target/bin/replay), the proved device through its C interface (tests/interface) and
-the second implementation (tests/model)."""
+The sides are the proved programs (console, replay, undo and undo_run of target/bin), the proved device through its C interface
+(tests/interface) and the second implementation (tests/model)."""
 import argparse
 import collections
 import concurrent.futures
@@ -19,6 +19,8 @@ ROOT = pathlib.Path(__file__).resolve().parent.parent
 MODEL = str(ROOT / "tests/model/target/release/model")
 CONSOLE = str(ROOT / "target/bin/console")
 REPLAY = str(ROOT / "target/bin/replay")
+UNDO = str(ROOT / "target/bin/undo")
+UNDO_RUN = str(ROOT / "target/bin/undo_run")
 INTERFACE = str(ROOT / "tests/interface/target/release/interface")
 ARCHIVE = ROOT / "target/staticlib/libcapi.a"
 KEPT = ROOT / "target/disagreement"
@@ -49,9 +51,10 @@ class Disagreement(Exception):
 
 def build():
     """The programs and the archive where they are missing, and what cargo builds (it says itself whether there is anything to do)."""
-    if not (pathlib.Path(CONSOLE).exists() and pathlib.Path(REPLAY).exists()):
-        print("building console and replay and proving what they stand on; this takes some minutes the first time", flush=True)
-        subprocess.run(["rt", "check", "console", "replay"], cwd=ROOT, check=True)
+    missing = [pathlib.Path(path).name for path in (CONSOLE, REPLAY, UNDO, UNDO_RUN) if not pathlib.Path(path).exists()]
+    if missing:
+        print(f"building {', '.join(missing)} and proving what they stand on; this takes some minutes the first time", flush=True)
+        subprocess.run(["rt", "check", *missing], cwd=ROOT, check=True)
     if not ARCHIVE.exists():
         print(f"building {ARCHIVE.relative_to(ROOT)} and proving what it stands on", flush=True)
         subprocess.run(["rt", "staticlib", "capi"], cwd=ROOT, check=True)
@@ -107,9 +110,10 @@ def named_lines(err):
 
 # ---- What is stored beside the programs that check it
 
-STORED_SCRIPTS = ("console", "payloads_run", "frames_run", "incident_run", "worked_run")
+STORED_SCRIPTS = ("console", "payloads_run", "frames_run", "incident_run", "worked_run", "night_run")
 STORED_REGISTERS = "registers_run"
 STORED_JOURNALS = "replay_run"
+STORED_QUESTIONS = "undo_run"
 
 
 def stored(name):

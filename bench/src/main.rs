@@ -268,27 +268,58 @@ fn processor_time(who: i32) -> f64 {
     usage.times.iter().map(|t| t[0] as f64 * 1e9 + t[1] as f64 * 1e3).sum()
 }
 
-/// Replay of a million records, ns a record: the program `replay` on a file, and the second implementation on the same file, five times in
-/// turn.
-fn replay(root: &str) -> (f64, f64) {
-    let path = format!("{root}/target/bench.trail");
-    std::fs::write(&path, payload::journal(RECORDS)).expect("the journal");
+/// What a program of target/bin prints.
+fn printed(name: &str, words: &[&str]) -> String {
+    let program = Command::new(format!("{ROOT}/target/bin/{name}"))
+        .args(words)
+        .stderr(Stdio::inherit())
+        .output()
+        .expect("a program of target/bin");
+    String::from_utf8_lossy(&program.stdout).into_owned()
+}
+
+/// Ns a record of a journal of a million: by a program on a file, and by the second implementation on the same file, five times in turn.
+fn a_record(mut program: impl FnMut(), mut model: impl FnMut()) -> (f64, f64) {
     let (mut mine, mut other) = (Vec::new(), Vec::new());
     for _ in 0..5 {
         let began = processor_time(CHILDREN);
-        let program = Command::new(format!("{root}/target/bin/replay"))
-            .arg(&path)
-            .stderr(Stdio::inherit())
-            .output()
-            .expect("target/bin/replay");
+        program();
         mine.push((processor_time(CHILDREN) - began) / RECORDS as f64);
         let began = processor_time(OWN);
-        let report = model::journal::report(&std::fs::read(&path).expect("the journal"));
+        model();
         other.push((processor_time(OWN) - began) / RECORDS as f64);
-        assert_eq!(String::from_utf8_lossy(&program.stdout), report);
     }
-    std::fs::remove_file(&path).expect("the journal");
     (median(mine), median(other))
+}
+
+fn journal(path: &str) -> Vec<u8> {
+    std::fs::read(path).expect("the journal")
+}
+
+fn replay(path: &str) -> (f64, f64) {
+    let (mut mine, mut other) = (String::new(), String::new());
+    let took = a_record(
+        || mine = printed("replay", &[path]),
+        || other = model::journal::report(&journal(path)),
+    );
+    assert_eq!(mine, other);
+    took
+}
+
+/// The list that leads back to the first half of the records, and how many payloads and bytes it has.
+fn undo(path: &str) -> ((f64, f64), usize, usize) {
+    let (half, out) = (RECORDS / 2, format!("{ROOT}/target/bench.list"));
+    let (mut mine, mut room, mut length) = (String::new(), vec![0; 1 << 18], 0);
+    let took = a_record(
+        || mine = printed("undo", &[&half.to_string(), path, &out]),
+        || length = model::undo::undo(&journal(path), half, &mut room).expect("a list"),
+    );
+    let list = &room[..length];
+    let payloads = model::undo::post::payloads(list).expect("payloads").len();
+    assert_eq!(mine, format!("payloads {payloads}\nbytes {length}\n"));
+    assert!(std::fs::read(&out).expect("the list") == list, "another list");
+    std::fs::remove_file(&out).expect("the list");
+    (took, payloads, length)
 }
 
 fn row(name: &str, (mine, beside): Measured, other: f64) {
@@ -317,6 +348,8 @@ const AIMS: [(&str, f64, &str); 11] = [
 const COPIES: &str = "copies of 48 KiB";
 const SCANS: &str = "scans";
 const REPLAY: &str = "replay, a record of a million";
+const UNDO: &str = "undo to the first half, a record of a million";
+const ROOT: &str = concat!(env!("CARGO_MANIFEST_DIR"), "/..");
 
 fn main() {
     let (mine, other) = (cases::<Rocker>(), cases::<Device>());
@@ -327,9 +360,20 @@ fn main() {
         row(name, mine, other.0);
         measured.push((name, mine));
     }
-    let (mine, other) = replay(concat!(env!("CARGO_MANIFEST_DIR"), "/.."));
+    let path = format!("{ROOT}/target/bench.trail");
+    std::fs::write(&path, payload::journal(RECORDS)).expect("the journal");
+    let bytes = journal(&path).len();
+    let (mine, other) = replay(&path);
     row(REPLAY, (mine, 0.0), other);
     measured.push((REPLAY, (mine, 0.0)));
+    let ((mine, other), payloads, length) = undo(&path);
+    row(UNDO, (mine, 0.0), other);
+    std::fs::remove_file(&path).expect("the journal");
+    println!("\nThe journal of {RECORDS} records has {bytes} bytes, the list {payloads} payloads and {length} bytes.");
+    for (name, ns) in [("undo", mine), ("the model's", other)] {
+        let (seconds, rate) = (ns * RECORDS as f64 / 1e9, 1e9 / ns);
+        println!("{name}: {seconds:.2} s, {rate:.0} records a second");
+    }
 
     println!("\n| aim | at most | measured | |");
     println!("|---|---|---|---|");

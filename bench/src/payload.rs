@@ -22,10 +22,10 @@ fn command(kind: u16, fields: &[Vec<u8>]) -> Vec<u8> {
     bytes
 }
 
-fn flow(kind: u16, table: u16, cookie: u64, goto: u16, matching: &[Vec<u8>]) -> Vec<u8> {
+fn flow(kind: u16, table: u16, cookie: u64, priority: u32, goto: u16, matching: &[Vec<u8>]) -> Vec<u8> {
     let mut fields = vec![
         tlv(1, &table.to_le_bytes()),
-        tlv(2, &1u32.to_le_bytes()),
+        tlv(2, &priority.to_le_bytes()),
         tlv(5, &cookie.to_le_bytes()),
         tlv(9, &goto.to_le_bytes()),
     ];
@@ -35,14 +35,18 @@ fn flow(kind: u16, table: u16, cookie: u64, goto: u16, matching: &[Vec<u8>]) -> 
 
 /// Frames from any port go on to table 10.
 pub fn ingress(kind: u16, cookie: u64) -> Vec<u8> {
+    prior(kind, cookie, 1)
+}
+
+fn prior(kind: u16, cookie: u64, priority: u32) -> Vec<u8> {
     let (port, mask) = (1u32.to_le_bytes(), 0u32.to_le_bytes());
-    flow(kind, 0, cookie, 10, &[tlv(6, &port), tlv(7, &mask)])
+    flow(kind, 0, cookie, priority, 10, &[tlv(6, &port), tlv(7, &mask)])
 }
 
 /// Frames from port 1 on the VLAN go on to table 50.
 pub fn vlan(kind: u16, cookie: u64) -> Vec<u8> {
     let (port, vlan) = (1u32.to_le_bytes(), VLAN.to_be_bytes());
-    flow(kind, 10, cookie, 20, &[tlv(6, &port), tlv(14, &vlan)])
+    flow(kind, 10, cookie, 1, 20, &[tlv(6, &port), tlv(14, &vlan)])
 }
 
 /// Frames of the VLAN to a station go to a group.
@@ -52,6 +56,7 @@ pub fn bridge(kind: u16, cookie: u64, mac: [u8; 6], group: u32) -> Vec<u8> {
         kind,
         50,
         cookie,
+        1,
         60,
         &[tlv(14, &vlan), tlv(24, &mac), tlv(10, &group)],
     )
@@ -110,8 +115,8 @@ pub fn descriptor(at: u64, length: usize) -> [u8; 32] {
     bytes
 }
 
-/// A journal of so many records on a switch with 250 flows: of ten changes six are mods, two a del and the add after it, one an add
-/// that is refused (EEXIST) and one a del that is refused (ENOENT).
+/// A journal of so many records on a switch with 250 flows: of ten changes six are mods, each to another priority, two a del and the add after
+/// it, one an add that is refused (EEXIST) and one a del that is refused (ENOENT).
 pub fn journal(records: u64) -> Vec<u8> {
     let mut bytes = b"RKT\x01\x00\x3e".to_vec();
     let mut count = 0;
@@ -137,7 +142,7 @@ pub fn journal(records: u64) -> Vec<u8> {
     while more {
         let cookie = 2 * random(250) + 2;
         more = match random(10) {
-            0..=5 => put(0, ingress(FLOW_MOD, cookie)),
+            0..=5 => put(0, prior(FLOW_MOD, cookie, random(1000) as u32)),
             6..=7 => put(0, flow_del(cookie)) && put(0, ingress(FLOW_ADD, cookie)),
             8 => put(17, ingress(FLOW_ADD, cookie)),
             _ => put(2, flow_del(cookie + 1)),

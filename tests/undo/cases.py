@@ -1,6 +1,6 @@
 #!/usr/bin/env python3
-"""tests/undo/cases.py MODEL: writes the stored questions of request 2026-06 (tests/undo/stdin) and their outcomes (tests/undo/stdout). The
-outcomes come from the second implementation; each case has its list written out by hand, too, and the two must agree.
+"""tests/undo/cases.py MODEL: writes the stored questions of request 2026-06 (crates/undo_run/stdin) and their outcomes (stdout beside it).
+The outcomes come from the second implementation; each case has its list written out by hand, too, and the two must agree.
 
 A question is n (8 bytes), the room's length (4), the journal's length (4) and the journal, as `model undo-all` reads them."""
 import pathlib
@@ -8,7 +8,7 @@ import struct
 import subprocess
 import sys
 
-HERE = pathlib.Path(__file__).resolve().parent
+STORED = pathlib.Path(__file__).resolve().parents[2] / "crates/undo_run"
 OK, ENOENT, ENXIO, ENOMEM, EEXIST, EINVAL, EMSGSIZE, ENOTSUP = 0, 2, 6, 12, 17, 22, 90, 95
 ADD, MOD = 0, 1
 KEPT = 0xA5  # each byte of a room before the call
@@ -251,8 +251,17 @@ def edges():
     case("full on both sides", journal(*flows, *groups, *night), 384, back)
 
 
+def example():
+    """The night of docs/UNDO.md, and the morning after its list: nothing is left to do."""
+    import night
+    evening, later = ([payload for _, payload in part] for part in (night.EVENING, night.NIGHT))
+    told = [*evening, *later[:-1], (EEXIST, later[-1])]
+    case("the night", journal(*told), len(evening), night.BACK)
+    case("the morning", journal(*told, *night.BACK), len(evening), [], 0)
+
+
 def build():
-    for make in (numbers, refusals, rooms, order, one_field, same_again, zeros, edges):
+    for make in (numbers, refusals, rooms, order, one_field, same_again, zeros, edges, example):
         make()
     return CASES
 
@@ -277,8 +286,8 @@ def main():
     wrong = [name for (name, *_), a, b in zip(cases, printed, by_hand) if f"undo {a}" != b]
     if wrong or len(printed) != len(by_hand):
         sys.exit(f"{len(wrong)} of {len(cases)} cases are not as they are written out: {', '.join(wrong)}")
-    (HERE / "stdin").write_bytes(stdin)
-    (HERE / "stdout").write_bytes(stdout)
+    (STORED / "stdin").write_bytes(stdin)
+    (STORED / "stdout").write_bytes(stdout)
     print(f"{len(cases)} cases, {len(stdin):,} bytes in, {len(stdout):,} bytes out")
 
 

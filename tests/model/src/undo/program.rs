@@ -18,9 +18,19 @@ fn print(text: &str) -> io::Result<()> {
 /// More than the longest list has.
 const ROOM: usize = 1 << 18;
 
+/// A file, or standard input where it is `-`.
+fn read(file: &str) -> io::Result<Vec<u8>> {
+    if file != "-" {
+        return fs::read(file);
+    }
+    let mut input = Vec::new();
+    io::stdin().lock().read_to_end(&mut input)?;
+    Ok(input)
+}
+
 /// `undo N FILE OUT`: the list goes to OUT. A refused run leaves OUT alone, and is no failure.
 pub fn undo(n: u64, file: &str, out: &str) -> io::Result<ExitCode> {
-    let trail = fs::read(file)?;
+    let trail = read(file)?;
     let mut room = vec![0; ROOM];
     let length = match undo_call(&trail, n, &mut room) {
         Ok(length) => length,
