@@ -4,20 +4,15 @@ use Prim.Native.Nat.{ℕ, _+_, _<_, _≤_}
 use mathlib.Core.Path.{_≡_, ap, sym, _∙_, subst}
 use mathlib.Core.List.{List, _++_}
 use native.Mathlib.Omega.{arith}
-use lib.ListN.{length, take, drop, length-append, length-take, length-drop}
+use lib.ListN.{length, take, length-append}
 use Rattle.rules.specs.Bytes.{bytesOf, splice}
 use Rattle.rules.proofs.Bytes.{length-bytesOf, take-splice}
 use Rattle.wire.specs.Put.{put}
 use Rattle.journal.proofs.Writing.{splice-on, put-inside}
 use Rattle.encoding.specs.Writing.{Puts}
+use Rattle.encoding.proofs.Splicing.{length-splice}
 use Rattle.listing.specs.Listing.{Adds}
 use Rattle.listing.specs.declared.Listed.{Listed}
-
-pub length-splice : (at : ℕ) (new s : List ℕ) → at + length new ≤ length s → length (splice at new s) ≡ length s
-unfolding splice
-length-splice at new s h =
-    omega
-    (arith, length-append (take at s) (new ++ drop (at + length new) s), length-append new (drop (at + length new) s), length-take at s, length-drop (at + length new) s)
 
 -- the number and the payload, written one after the other
 pub two-writings : (at : ℕ) (payload s t u : List ℕ) → at + 2 + length payload ≤ length s → t ≡ put at 2 (length payload) s
@@ -39,7 +34,7 @@ module _ (r so-far : Listed) (payload before : List ℕ) (count-is : r .count �
         count-is = count-is;
         size-is = omega arith;
         at-most = omega arith;
-        kept = rw w (length-splice (so-far .size) (bytesOf 2 (length payload) ++ payload) before (omega (arith, length-append (bytesOf 2 (length payload)) payload, length-bytesOf 2 (length payload))));
+        kept = rw w (length-splice (so-far .size) (bytesOf 2 (length payload) ++ payload) before (omega arith) (omega (arith, length-append (bytesOf 2 (length payload)) payload, length-bytesOf 2 (length payload))));
         written = λ i. w;
       }
 
