@@ -61,17 +61,17 @@ unfolding flowIn carried
 flow-read terms s make =
     need-read _ Einval _ einval-read (need-read _ Enotsup _ enotsup-read (need-read _ Einval _ einval-read tt))
 
-flow-key-read : (s : List ℕ) → ReadBy (flowKeyIn s .what)
+flow-key-read : (terms : Terms) (s : List ℕ) → ReadBy (flowKeyIn terms s .what)
 unfolding flowKeyIn carried
-flow-key-read s = need-read _ Einval _ einval-read tt
+flow-key-read terms s = need-read _ Einval _ einval-read tt
 
 group-read : (terms : Terms) (s : List ℕ) (make : Group → Command) → ReadBy (groupIn terms s make .what)
 unfolding groupIn carried
 group-read terms s make = need-read _ Einval _ einval-read tt
 
-group-key-read : (s : List ℕ) → ReadBy (groupKeyIn s .what)
+group-key-read : (terms : Terms) (s : List ℕ) → ReadBy (groupKeyIn terms s .what)
 unfolding groupKeyIn carried
-group-key-read s = need-read _ Einval _ einval-read tt
+group-key-read terms s = need-read _ Einval _ einval-read tt
 
 either : (t : Bool) (a b : Decoding) → ReadBy (a .what) → ReadBy (b .what) → ReadBy (choose t a b .what)
 either true a b h k = h
@@ -82,9 +82,9 @@ unfolding commandIn
 command-read terms c s =
     either (eqb c 3) _ _ (flow-read terms s FlowAdd)
     (either (eqb c 4) _ _ (flow-read terms s FlowMod)
-    (either (eqb c 5) _ _ (flow-key-read s)
+    (either (eqb c 5) _ _ (flow-key-read terms s)
     (either (eqb c 7) _ _ (group-read terms s GroupAdd)
-    (either (eqb c 8) _ _ (group-read terms s GroupMod) (group-key-read s)))))
+    (either (eqb c 8) _ _ (group-read terms s GroupMod) (group-key-read terms s)))))
 
 decode-read : (terms : Terms) (s : List ℕ) → ReadBy (decode terms s .what)
 unfolding decode

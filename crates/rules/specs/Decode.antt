@@ -5,6 +5,7 @@ use mathlib.Core.List.{List, []}
 use lib.Dec.{leb, eqb}
 use Rattle.rules.specs.Choose.{choose}
 use Rattle.rules.specs.Bytes.{swap16}
+use Rattle.rules.specs.Version.{headerBytes}
 use Rattle.rules.specs.Region.{wellFormed, lookup}
 use Rattle.rules.specs.Fields.{field, given, value, fieldsRight, isAt, numberIn, nestIn, flow0, flow10, flow50, flowDel, group0, groupMany, groupDel}
 use Rattle.rules.specs.GroupId.{groupType, groupVlan, groupLow, vlanAllowed, hasMembers, groupIdAllowed}
@@ -32,19 +33,23 @@ carried c lows = record { what = Carry c; members = pad lows }
 unfoldable pub need : Bool → Status → Decoding → Decoding
 need test e d = choose test d (refused e)
 
+-- how many header bytes a TLV's length counts under these terms, in all regions of a payload: "Everything that walks a region follows"
+abbrev pub headerOf : Terms → ℕ
+headerOf terms = headerBytes (terms .version)
+
 -- ---- Flows
 
 -- what a flow of table 0, 10 or 50 compares. The fields that a table does not list are left out; VLANs are (N).
-unfoldable pub matchOf : List ℕ → ℕ → Match
-matchOf s t =
-    choose (eqb t 0) (IngressPort (value s 6) (value s 7))
-    (choose (eqb t 10) (Vlan (value s 6) (swap16 (value s 14)) (swap16 (value s 19)))
-    (Bridging (swap16 (value s 14)) (given s 24) (value s 24) (given s 10) (value s 10)))
+unfoldable pub matchOf : ℕ → List ℕ → ℕ → Match
+matchOf h s t =
+    choose (eqb t 0) (IngressPort (value h s 6) (value h s 7))
+    (choose (eqb t 10) (Vlan (value h s 6) (swap16 (value h s 14)) (swap16 (value h s 19)))
+    (Bridging (swap16 (value h s 14)) (given h s 24) (value h s 24) (given h s 10) (value h s 10)))
 
 -- the two times "default to 0"
-unfoldable pub flowOf : List ℕ → ℕ → Flow
-flowOf s t =
-    record { cookie = value s 5; priority = value s 2; hardtime = value s 3; idletime = value s 4; «goto_tbl» = value s 9; matching = matchOf s t }
+unfoldable pub flowOf : ℕ → List ℕ → ℕ → Flow
+flowOf h s t =
+    record { cookie = value h s 5; priority = value h s 2; hardtime = value h s 3; idletime = value h s 4; «goto_tbl» = value h s 9; matching = matchOf h s t }
 
 -- a given group has the flow's VLAN, and the type that its MAC asks for; whether the group exists is not asked
 unfoldable pub groupFits : ℕ → Bool → ℕ → ℕ → Bool
@@ -71,33 +76,37 @@ isTable t = eqb t 0 || eqb t 10 || eqb t 50
 -- add and mod: TBL is looked at first, and one that is given but unknown is ENOTSUP; then the other fields
 unfoldable pub flowIn : Terms → List ℕ → (Flow → Command) → Decoding
 flowIn terms s make =
-    need (given s 1) Einval
-    (need (isTable (value s 1)) Enotsup
-    (need (fieldsRight s (flowUser (value s 1)) && matchAllowed terms (value s 9) (given s 19) (matchOf s (value s 1))) Einval
-    (carried (make (flowOf s (value s 1))) [])))
+    let h = headerOf terms in
+    need (given h s 1) Einval
+    (need (isTable (value h s 1)) Enotsup
+    (need (fieldsRight h s (flowUser (value h s 1)) && matchAllowed terms (value h s 9) (given h s 19) (matchOf h s (value h s 1))) Einval
+    (carried (make (flowOf h s (value h s 1))) [])))
 
 -- the key of a flow
-unfoldable pub flowKeyIn : List ℕ → Decoding
-flowKeyIn s = need (fieldsRight s flowDel) Einval (carried (FlowDel (value s 5)) [])
+unfoldable pub flowKeyIn : Terms → List ℕ → Decoding
+flowKeyIn terms s =
+    let h = headerOf terms in
+    need (fieldsRight h s flowDel) Einval (carried (FlowDel (value h s 5)) [])
 
 -- ---- Groups
 
 -- a group's own fields; what its type does not use is not read
-unfoldable pub groupOf : List ℕ → ℕ → Group
-groupOf s id =
-    choose (eqb (groupType id) 0) (record { id = id; «pop_vlan» = eqb (value s 43) 1; «member_count» = 0 })
-    (record { id = id; «pop_vlan» = false; «member_count» = value s 12 })
+unfoldable pub groupOf : ℕ → List ℕ → ℕ → Group
+groupOf h s id =
+    choose (eqb (groupType id) 0) (record { id = id; «pop_vlan» = eqb (value h s 43) 1; «member_count» = 0 })
+    (record { id = id; «pop_vlan» = false; «member_count» = value h s 12 })
 
-unfoldable pub membersOf : List ℕ → ℕ → Collected
-membersOf s id =
-    choose (eqb (groupType id) 0) (record { right = true; lows = [] }) (membersIn (nestIn s (field s 13)) (groupVlan id))
+unfoldable pub membersOf : ℕ → List ℕ → ℕ → Collected
+membersOf h s id =
+    choose (eqb (groupType id) 0) (record { right = true; lows = [] }) (membersIn h (nestIn s (field h s 13)) (groupVlan id))
 
 -- the ranges of a group's fields: of type 0, OUT_PPORT is the ID's low bits and a port that the device has, or 0; of types 3 and 4,
 -- the members
 unfoldable pub groupAllowed : Terms → List ℕ → ℕ → Collected → Bool
 groupAllowed terms s id c =
+    let h = headerOf terms in
     groupIdAllowed id
-    && choose (eqb (groupType id) 0) (eqb (value s 8) (groupLow id) && leb (value s 8) (terms .ports) && leb (value s 43) 1) (membersRight (value s 12) c)
+    && choose (eqb (groupType id) 0) (eqb (value h s 8) (groupLow id) && leb (value h s 8) (terms .ports) && leb (value h s 43) 1) (membersRight (value h s 12) c)
 
 unfoldable pub groupUser : ℕ → ℕ
 groupUser id = choose (eqb (groupType id) 0) group0 groupMany
@@ -105,12 +114,15 @@ groupUser id = choose (eqb (groupType id) 0) group0 groupMany
 -- add and mod
 unfoldable pub groupIn : Terms → List ℕ → (Group → Command) → Decoding
 groupIn terms s make =
-    need (fieldsRight s (groupUser (value s 10)) && groupAllowed terms s (value s 10) (membersOf s (value s 10))) Einval
-    (carried (make (groupOf s (value s 10))) (membersOf s (value s 10) .lows))
+    let h = headerOf terms in
+    need (fieldsRight h s (groupUser (value h s 10)) && groupAllowed terms s (value h s 10) (membersOf h s (value h s 10))) Einval
+    (carried (make (groupOf h s (value h s 10))) (membersOf h s (value h s 10) .lows))
 
 -- the key of a group
-unfoldable pub groupKeyIn : List ℕ → Decoding
-groupKeyIn s = need (fieldsRight s groupDel && groupIdAllowed (value s 10)) Einval (carried (GroupDel (value s 10)) [])
+unfoldable pub groupKeyIn : Terms → List ℕ → Decoding
+groupKeyIn terms s =
+    let h = headerOf terms in
+    need (fieldsRight h s groupDel && groupIdAllowed (value h s 10)) Einval (carried (GroupDel (value h s 10)) [])
 
 -- ---- Payloads
 
@@ -122,22 +134,23 @@ unfoldable pub commandIn : Terms → ℕ → List ℕ → Decoding
 commandIn terms c s =
     choose (eqb c 3) (flowIn terms s FlowAdd)
     (choose (eqb c 4) (flowIn terms s FlowMod)
-    (choose (eqb c 5) (flowKeyIn s)
+    (choose (eqb c 5) (flowKeyIn terms s)
     (choose (eqb c 7) (groupIn terms s GroupAdd)
     (choose (eqb c 8) (groupIn terms s GroupMod)
-    (groupKeyIn s)))))
+    (groupKeyIn terms s)))))
 
 -- the two fields of the "top" region: CMD_TYPE of two bytes, CMD_INFO a nest
-unfoldable pub commandType : List ℕ → Found
-commandType s = lookup s 1 2
+unfoldable pub commandType : ℕ → List ℕ → Found
+commandType h s = lookup h s 1 2
 
-unfoldable pub commandInfo : List ℕ → Found
-commandInfo s = lookup s 2 0
+unfoldable pub commandInfo : ℕ → List ℕ → Found
+commandInfo h s = lookup h s 2 0
 
 -- the "order" of faults: the top region and its two fields; the command; the nest's form; what stands in it
 unfoldable pub decode : Terms → List ℕ → Decoding
 decode terms s =
-    need (wellFormed s && isAt (commandType s) && isAt (commandInfo s)) Einval
-    (need (isCommand (numberIn s 2 (commandType s))) Enotsup
-    (need (wellFormed (nestIn s (commandInfo s))) Einval
-    (commandIn terms (numberIn s 2 (commandType s)) (nestIn s (commandInfo s)))))
+    let h = headerOf terms in
+    need (wellFormed h s && isAt (commandType h s) && isAt (commandInfo h s)) Einval
+    (need (isCommand (numberIn s 2 (commandType h s))) Enotsup
+    (need (wellFormed h (nestIn s (commandInfo h s))) Einval
+    (commandIn terms (numberIn s 2 (commandType h s)) (nestIn s (commandInfo h s)))))

@@ -1,5 +1,5 @@
 -- Request 2026-06: a command written as a payload. An entry is its list of fields "in rising type", a payload the two fields of the top
--- region, all "in the device's own length meaning, with zero pads and fill". Decode reads what is written here.
+-- region, with "zero pads and fill". Decode reads what is written here.
 use Prim.Native.Nat.{ℕ, zero, suc, _-_}
 use mathlib.Core.Bool.{Bool, true, _&&_}
 use mathlib.Core.List.{List, [], _∷_, _++_}
@@ -8,6 +8,7 @@ use lib.Dec.{eqb}
 use Rattle.rules.specs.Choose.{choose, prepend}
 use Rattle.rules.specs.Limits.{fieldTypes}
 use Rattle.rules.specs.Bytes.{bytesOf, swap16}
+use Rattle.rules.specs.Version.{current, headerBytes}
 use Rattle.rules.specs.Region.{lengthField, filled}
 use Rattle.rules.specs.Fields.{ruleOf, hasUser}
 use Rattle.rules.specs.GroupId.{groupVlan, groupLow, memberId}
@@ -24,11 +25,11 @@ pub record Field : Type 0 where
 abbrev pub fieldOf : ℕ → List ℕ → Field
 fieldOf kind bytes = record { kind = kind; bytes = bytes }
 
--- a TLV: type, length and a pad of 0; the value; and 0 up to a multiple of 8
+-- a TLV: type, length "in the device's own length meaning" and a pad of 0; the value; and 0 up to a multiple of 8
 unfoldable pub tlvOf : Field → List ℕ
 tlvOf f =
     bytesOf 4 (f .kind)
-    ++ (bytesOf 2 (lengthField (length (f .bytes)))
+    ++ (bytesOf 2 (lengthField (headerBytes current) (length (f .bytes)))
     ++ (bytesOf 2 0
     ++ (f .bytes
     ++ replicate (filled (length (f .bytes)) - length (f .bytes)) 0)))

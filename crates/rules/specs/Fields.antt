@@ -84,9 +84,9 @@ ruleIn t (r ∷ rs) =
 unfoldable pub ruleOf : ℕ → FieldRule
 ruleOf t = ruleIn t rows
 
--- a field of CMD_INFO, looked up at its width
-unfoldable pub field : List ℕ → ℕ → Found
-field s t = lookup s t (ruleOf t .width)
+-- a field of CMD_INFO, looked up at its width; h as in Region
+unfoldable pub field : ℕ → List ℕ → ℕ → Found
+field h s t = lookup h s t (ruleOf t .width)
 
 unfoldable pub isAt : Found → Bool
 isAt Absent = false
@@ -106,11 +106,11 @@ nestIn s (At a n) = part n s a
 nestIn s Fault = []
 
 -- a field stands there once at its width, and its number
-unfoldable pub given : List ℕ → ℕ → Bool
-given s t = isAt (field s t)
+unfoldable pub given : ℕ → List ℕ → ℕ → Bool
+given h s t = isAt (field h s t)
 
-unfoldable pub value : List ℕ → ℕ → ℕ
-value s t = numberIn s (ruleOf t .width) (field s t)
+unfoldable pub value : ℕ → List ℕ → ℕ → ℕ
+value h s t = numberIn s (ruleOf t .width) (field h s t)
 
 -- what was found of a field is right for one who needs it or not
 unfoldable pub right : Bool → Found → Bool
@@ -123,13 +123,13 @@ unfoldable pub hasUser : ℕ → ℕ → Bool
 hasUser set who = not (eqb (bitAnd set who) 0)
 
 -- who uses a field finds it right; a field that it does not use is skipped
-unfoldable pub fieldRight : List ℕ → ℕ → ℕ → Bool
-fieldRight s who t = choose (hasUser (ruleOf t .uses) who) (right (hasUser (ruleOf t .needs) who) (field s t)) true
+unfoldable pub fieldRight : ℕ → List ℕ → ℕ → ℕ → Bool
+fieldRight h s who t = choose (hasUser (ruleOf t .uses) who) (right (hasUser (ruleOf t .needs) who) (field h s t)) true
 
 unfoldable pub everyBelow : ℕ → (ℕ → Bool) → Bool
 everyBelow zero f = true
 everyBelow (suc n) f = f n && everyBelow n f
 
 -- every field of the table is right for who reads the region: none "missing, repeated" or of another width
-unfoldable pub fieldsRight : List ℕ → ℕ → Bool
-fieldsRight s who = everyBelow fieldTypes (fieldRight s who)
+unfoldable pub fieldsRight : ℕ → List ℕ → ℕ → Bool
+fieldsRight h s who = everyBelow fieldTypes (fieldRight h s who)

@@ -37,9 +37,9 @@ collect s vlan before (x ∷ xs) =
     (collect s vlan (before ++ (groupLow (leAt 4 s (x .start)) ∷ [])) xs)
     (record { right = false; lows = [] })
 
--- the members in GROUP_IDS
-unfoldable pub membersIn : List ℕ → ℕ → Collected
-membersIn s vlan = choose (wellFormed s) (collect s vlan [] (tlvs s 0)) (record { right = false; lows = [] })
+-- the members in GROUP_IDS, a region like the others; h as in Region
+unfoldable pub membersIn : ℕ → List ℕ → ℕ → Collected
+membersIn h s vlan = choose (wellFormed h s) (collect s vlan [] (tlvs h s 0)) (record { right = false; lows = [] })
 
 -- GROUP_IDS is right for a GROUP_COUNT: 1 to 62, and as many members
 unfoldable pub membersRight : ℕ → Collected → Bool

@@ -70,8 +70,8 @@ pub type GroupMembers = [Members; MAX_GROUPS];
 
 // ---- Terms
 
-// The version of the journals that the device writes (specs/Version.antt).
-pub const CURRENT_VERSION: u16 = 1;
+// The version that the device obeys and its journals carry (specs/Version.antt).
+pub const CURRENT_VERSION: u16 = 2;
 
 // What a journal's header tells, and what its payloads are carried out under: the port count and the version.
 pub struct Terms {
