@@ -12,7 +12,7 @@ use Rattle.rules.specs.Limits.{maxPorts}
 use Rattle.rules.specs.Fields.{value}
 use Rattle.rules.specs.GroupId.{groupType, groupIdAllowed}
 use Rattle.rules.specs.Members.{Collected, membersRight}
-use Rattle.rules.specs.Decode.{groupAllowed}
+use Rattle.rules.specs.Decode.{headerOf, groupAllowed}
 use Rattle.rules.specs.declared.Terms.{Terms}
 use Rattle.rules.proofs.Cases.{and-left, and-right}
 
@@ -21,7 +21,7 @@ unfolding membersRight
 right-count count c e =
     omega (arith, leb-true count maxPorts (and-right (c .right && leb 1 count) (leb count maxPorts) (and-left _ (eqb (length (c .lows)) count) e)))
 
-pub count-fits : (terms : Terms) (s : List ℕ) (id : ℕ) (c : Collected) → groupAllowed terms s id c ≡ true → eqb (groupType id) 0 ≡ false
-    → value s 12 < 256
+pub count-fits : (terms : Terms) (h : ℕ) (s : List ℕ) (id : ℕ) (c : Collected) → h ≡ headerOf terms → groupAllowed terms s id c ≡ true → eqb (groupType id) 0 ≡ false
+    → value h s 12 < 256
 unfolding groupAllowed
-count-fits terms s id c a e = right-count (value s 12) c (rw e at (and-right (groupIdAllowed id) _ a))
+count-fits terms h s id c q a e = rw q (right-count (value (headerOf terms) s 12) c (rw e at (and-right (groupIdAllowed id) _ a)))

@@ -4,7 +4,7 @@ ghost use Prim.Native.Nat.{_<_};
 ghost use Rattle.rules.specs.Choose.{choose};
 ghost use Rattle.rules.specs.Bytes.{swap16};
 ghost use Rattle.rules.specs.Fields.{value};
-ghost use Rattle.rules.specs.Decode.{matchOf, flowOf, groupFits, newVlanFits, matchAllowed, flowUser, isTable, flowIn, flowKeyIn};
+ghost use Rattle.rules.specs.Decode.{headerOf, matchOf, flowOf, groupFits, newVlanFits, matchAllowed, flowUser, isTable, flowIn, flowKeyIn};
 ghost use Rattle.rules.specs.declared.Command.the-variants.{FlowAdd, FlowMod};
 ghost use Rattle.tlv.specs.Index.{Indexed};
 ghost use Rattle.rules.specs.Limits.{fieldTypes};
@@ -18,51 +18,51 @@ use rules::Status;
 use rules::Terms;
 
 // A VLAN, which is big-endian.
-fn vlan(s: &[u8], places: &[usize; FIELD_TYPES], t: u32) -> u16
-    requires { ⌜ (Indexed (now s) (now places)) × (t < fieldTypes) ⌝ }
-    ensures { λ r. ⌜ r ≡ swap16 (value (now (s .entry)) t) ⌝ }
+fn vlan(s: &[u8], header: usize, places: &[usize; FIELD_TYPES], t: u32) -> u16
+    requires { ⌜ (Indexed header (now s) (now places)) × (t < fieldTypes) ⌝ }
+    ensures { λ r. ⌜ r ≡ swap16 (value header (now (s .entry)) t) ⌝ }
 {
-    let v = fields::value(s, places, t);
+    let v = fields::value(s, header, places, t);
     (v % 256 * 256 + v / 256 % 256) as u16
 }
 
-fn match_of(s: &[u8], places: &[usize; FIELD_TYPES], t: u64) -> Match
-    requires { ⌜ Indexed (now s) (now places) ⌝ }
-    ensures { λ r. ⌜ r ≡ matchOf (now (s .entry)) t ⌝ }
+fn match_of(s: &[u8], header: usize, places: &[usize; FIELD_TYPES], t: u64) -> Match
+    requires { ⌜ Indexed header (now s) (now places) ⌝ }
+    ensures { λ r. ⌜ r ≡ matchOf header (now (s .entry)) t ⌝ }
 {
     if t == 0 {
         Match::IngressPort {
-            in_pport: super::word(s, places, fields::IN_PPORT),
-            in_pport_mask: super::word(s, places, fields::IN_PPORT_MASK),
+            in_pport: super::word(s, header, places, fields::IN_PPORT),
+            in_pport_mask: super::word(s, header, places, fields::IN_PPORT_MASK),
         }
     } else if t == 10 {
         Match::Vlan {
-            in_pport: super::word(s, places, fields::IN_PPORT),
-            vlan_id: vlan(s, places, fields::VLAN_ID),
-            new_vlan_id: vlan(s, places, fields::NEW_VLAN_ID),
+            in_pport: super::word(s, header, places, fields::IN_PPORT),
+            vlan_id: vlan(s, header, places, fields::VLAN_ID),
+            new_vlan_id: vlan(s, header, places, fields::NEW_VLAN_ID),
         }
     } else {
         Match::Bridging {
-            vlan_id: vlan(s, places, fields::VLAN_ID),
-            has_mac: fields::given(s, places, fields::DST_MAC),
-            dst_mac: fields::value(s, places, fields::DST_MAC),
-            has_group: fields::given(s, places, fields::GROUP_ID),
-            group_id: super::word(s, places, fields::GROUP_ID),
+            vlan_id: vlan(s, header, places, fields::VLAN_ID),
+            has_mac: fields::given(s, header, places, fields::DST_MAC),
+            dst_mac: fields::value(s, header, places, fields::DST_MAC),
+            has_group: fields::given(s, header, places, fields::GROUP_ID),
+            group_id: super::word(s, header, places, fields::GROUP_ID),
         }
     }
 }
 
-fn flow_of(s: &[u8], places: &[usize; FIELD_TYPES], t: u64) -> Flow
-    requires { ⌜ Indexed (now s) (now places) ⌝ }
-    ensures { λ r. ⌜ r ≡ flowOf (now (s .entry)) t ⌝ }
+fn flow_of(s: &[u8], header: usize, places: &[usize; FIELD_TYPES], t: u64) -> Flow
+    requires { ⌜ Indexed header (now s) (now places) ⌝ }
+    ensures { λ r. ⌜ r ≡ flowOf header (now (s .entry)) t ⌝ }
 {
-    let matching = match_of(s, places, t);
+    let matching = match_of(s, header, places, t);
     Flow {
-        cookie: fields::value(s, places, fields::COOKIE),
-        priority: super::word(s, places, fields::PRIORITY),
-        hardtime: super::word(s, places, fields::HARDTIME),
-        idletime: super::word(s, places, fields::IDLETIME),
-        goto_tbl: fields::value(s, places, fields::GOTO_TBL) as u16,
+        cookie: fields::value(s, header, places, fields::COOKIE),
+        priority: super::word(s, header, places, fields::PRIORITY),
+        hardtime: super::word(s, header, places, fields::HARDTIME),
+        idletime: super::word(s, header, places, fields::IDLETIME),
+        goto_tbl: fields::value(s, header, places, fields::GOTO_TBL) as u16,
         matching: matching,
     }
 }
@@ -154,21 +154,27 @@ fn flow_command(add: bool, f: Flow) -> Command
 }
 
 // Flow add and mod.
-pub fn flow_in(terms: Terms, s: &[u8], places: &[usize; FIELD_TYPES], add: bool) -> Decoding
-    requires { ⌜ Indexed (now s) (now places) ⌝ }
+pub fn flow_in(
+    terms: Terms,
+    s: &[u8],
+    header: usize,
+    places: &[usize; FIELD_TYPES],
+    add: bool,
+) -> Decoding
+    requires { ⌜ (Indexed header (now s) (now places)) × (header ≡ headerOf terms) ⌝ }
     ensures { λ r. ⌜ r ≡ flowIn terms (now (s .entry)) (choose add FlowAdd FlowMod) ⌝ }
 {
-    if !fields::given(s, places, fields::TBL) {
+    if !fields::given(s, header, places, fields::TBL) {
         return super::refused(Status::Einval);
     }
-    let t = fields::value(s, places, fields::TBL);
+    let t = fields::value(s, header, places, fields::TBL);
     if !is_table(t) {
         return super::refused(Status::Enotsup);
     }
-    let flow = flow_of(s, places, t);
+    let flow = flow_of(s, header, places, t);
     let matching = flow.matching;
-    let has_new = fields::given(s, places, fields::NEW_VLAN_ID);
-    if !(fields::fields_right(s, places, flow_user(t))
+    let has_new = fields::given(s, header, places, fields::NEW_VLAN_ID);
+    if !(fields::fields_right(s, header, places, flow_user(t))
         & match_allowed(terms, flow.goto_tbl, has_new, matching)) {
         return super::refused(Status::Einval);
     }
@@ -176,15 +182,15 @@ pub fn flow_in(terms: Terms, s: &[u8], places: &[usize; FIELD_TYPES], add: bool)
 }
 
 // Flow del.
-pub fn flow_key_in(s: &[u8], places: &[usize; FIELD_TYPES]) -> Decoding
-    requires { ⌜ Indexed (now s) (now places) ⌝ }
-    ensures { λ r. ⌜ r ≡ flowKeyIn (now (s .entry)) ⌝ }
+pub fn flow_key_in(terms: Terms, s: &[u8], header: usize, places: &[usize; FIELD_TYPES]) -> Decoding
+    requires { ⌜ (Indexed header (now s) (now places)) × (header ≡ headerOf terms) ⌝ }
+    ensures { λ r. ⌜ r ≡ flowKeyIn terms (now (s .entry)) ⌝ }
 {
-    if !fields::fields_right(s, places, fields::FLOW_DEL) {
+    if !fields::fields_right(s, header, places, fields::FLOW_DEL) {
         return super::refused(Status::Einval);
     }
     super::carried(
-        Command::FlowDel(fields::value(s, places, fields::COOKIE)),
+        Command::FlowDel(fields::value(s, header, places, fields::COOKIE)),
         [0; MAX_MEMBERS],
     )
 }

@@ -4,7 +4,7 @@ ghost use mathlib.Core.List.{List};
 ghost use Prim.Native.Nat.{ℕ, _≤_, _<_};
 ghost use Rattle.rules.specs.Fields.{ruleOf, value};
 ghost use Rattle.rules.specs.Members.{pad};
-ghost use Rattle.rules.specs.Decode.{refused as Decode·refused, carried as Decode·carried, isCommand, commandIn, decode as Decode·decode};
+ghost use Rattle.rules.specs.Decode.{headerOf, refused as Decode·refused, carried as Decode·carried, isCommand, commandIn, decode as Decode·decode};
 ghost use Rattle.tlv.specs.Index.{Indexed};
 ghost use Rattle.rules.specs.Limits.{fieldTypes};
 use rules::Command;
@@ -56,11 +56,11 @@ fn carried(command: Command, lows: [u16; MAX_MEMBERS]) -> Decoding
 }
 
 // The number of a field that has four bytes at most.
-fn word(s: &[u8], places: &[usize; FIELD_TYPES], t: u32) -> u32
-    requires { ⌜ (Indexed (now s) (now places)) × (t < fieldTypes) × (ruleOf t .width ≤ 4) ⌝ }
-    ensures { λ r. ⌜ r ≡ value (now (s .entry)) t ⌝ }
+fn word(s: &[u8], header: usize, places: &[usize; FIELD_TYPES], t: u32) -> u32
+    requires { ⌜ (Indexed header (now s) (now places)) × (t < fieldTypes) × (ruleOf t .width ≤ 4) ⌝ }
+    ensures { λ r. ⌜ r ≡ value header (now (s .entry)) t ⌝ }
 {
-    fields::value(s, places, t) as u32
+    fields::value(s, header, places, t) as u32
 }
 
 fn is_command(c: u64) -> bool
@@ -74,23 +74,29 @@ fn is_command(c: u64) -> bool
         | (c == GROUP_DEL)
 }
 
-// A command in CMD_INFO, by its CMD_TYPE.
-fn command_in(terms: Terms, c: u64, s: &[u8], places: &[usize; FIELD_TYPES]) -> Decoding
-    requires { ⌜ Indexed (now s) (now places) ⌝ }
+// A command in CMD_INFO, by its CMD_TYPE. `header` is how many header bytes a length counts under the terms.
+fn command_in(
+    terms: Terms,
+    c: u64,
+    s: &[u8],
+    header: usize,
+    places: &[usize; FIELD_TYPES],
+) -> Decoding
+    requires { ⌜ (Indexed header (now s) (now places)) × (header ≡ headerOf terms) ⌝ }
     ensures { λ r. ⌜ r ≡ commandIn terms c (now (s .entry)) ⌝ }
 {
     if c == FLOW_ADD {
-        flow::flow_in(terms, s, places, true)
+        flow::flow_in(terms, s, header, places, true)
     } else if c == FLOW_MOD {
-        flow::flow_in(terms, s, places, false)
+        flow::flow_in(terms, s, header, places, false)
     } else if c == FLOW_DEL {
-        flow::flow_key_in(s, places)
+        flow::flow_key_in(terms, s, header, places)
     } else if c == GROUP_ADD {
-        group::group_in(terms, s, places, true)
+        group::group_in(terms, s, header, places, true)
     } else if c == GROUP_MOD {
-        group::group_in(terms, s, places, false)
+        group::group_in(terms, s, header, places, false)
     } else {
-        group::group_key_in(s, places)
+        group::group_key_in(terms, s, header, places)
     }
 }
 
@@ -98,9 +104,10 @@ fn command_in(terms: Terms, c: u64, s: &[u8], places: &[usize; FIELD_TYPES]) -> 
 pub fn decode(payload: &[u8], terms: Terms) -> Decoding
     ensures { λ r. ⌜ r ≡ Decode·decode terms (now (payload .entry)) ⌝ }
 {
-    let top = tlv::index_of(payload);
-    let kind = found::found(payload, &top.places, CMD_TYPE, 2);
-    let info = found::found(payload, &top.places, CMD_INFO, 0);
+    let header = tlv::header_bytes(terms.version);
+    let top = tlv::index_of(payload, header);
+    let kind = found::found(payload, header, &top.places, CMD_TYPE, 2);
+    let info = found::found(payload, header, &top.places, CMD_INFO, 0);
     if !(top.whole & found::is_at(kind) & found::is_at(info)) {
         return refused(Status::Einval);
     }
@@ -109,9 +116,9 @@ pub fn decode(payload: &[u8], terms: Terms) -> Decoding
         return refused(Status::Enotsup);
     }
     let nest = found::nest_in(payload, info);
-    let index = tlv::index_of(nest);
+    let index = tlv::index_of(nest, header);
     if !index.whole {
         return refused(Status::Einval);
     }
-    command_in(terms, c, nest, &index.places)
+    command_in(terms, c, nest, header, &index.places)
 }

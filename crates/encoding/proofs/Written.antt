@@ -7,6 +7,7 @@ use mathlib.Core.List.{List, [], _∷_, _++_, append-assoc, append-nil}
 use native.Mathlib.Omega.{arith}
 use lib.ListN.{length, replicate, length-append, length-replicate}
 use Rattle.rules.specs.Bytes.{bytesOf, splice}
+use Rattle.rules.specs.Version.{current, headerBytes}
 use Rattle.rules.specs.Region.{lengthField}
 use Rattle.rules.specs.Encode.{Field, fieldOf, tlvOf, regionOf, payloadOf}
 use Rattle.rules.proofs.Bytes.{length-bytesOf, splice-nil}
@@ -19,13 +20,13 @@ use Rattle.encoding.proofs.Regions.{length-lead, length-top, length-num
 
 -- type, length and pad
 pub lead-put : (at kind size : ℕ) (s : List ℕ) → at + 8 ≤ length s
-    → put (at + 6) 2 0 (put (at + 4) 2 (lengthField size) (put at 4 kind s)) ≡ splice at (lead kind size) s
+    → put (at + 6) 2 0 (put (at + 4) 2 (lengthField (headerBytes current) size) (put at 4 kind s)) ≡ splice at (lead kind size) s
 unfolding lead
 lead-put at kind size s h =
     rw (
       put-is at 4 kind s (omega arith),
-      put-behind at 4 2 (lengthField size) (bytesOf 4 kind) s (length-bytesOf 4 kind) (omega arith),
-      put-behind at 6 2 0 (bytesOf 4 kind ++ bytesOf 2 (lengthField size)) s (simp (length-append, length-bytesOf)) (omega arith),
+      put-behind at 4 2 (lengthField (headerBytes current) size) (bytesOf 4 kind) s (length-bytesOf 4 kind) (omega arith),
+      put-behind at 6 2 0 (bytesOf 4 kind ++ bytesOf 2 (lengthField (headerBytes current) size)) s (simp (length-append, length-bytesOf)) (omega arith),
     )
     (simp append-assoc)
 

@@ -6,6 +6,7 @@ use lib.ListN.{length}
 use lib.Dec.{eqb}
 use Rattle.rules.specs.Choose.{choose}
 use Rattle.rules.specs.Bytes.{bytesOf, splice}
+use Rattle.rules.specs.Version.{current, headerBytes}
 use Rattle.rules.specs.Region.{lengthField}
 use Rattle.rules.specs.Fields.{flowDel, groupDel}
 use Rattle.rules.specs.Decode.{flowUser, groupUser}
@@ -23,7 +24,7 @@ pub record Puts (r : ℕ) (after : List ℕ) (at : ℕ) (bytes before : List ℕ
 
 -- a TLV's first eight bytes
 unfoldable pub lead : ℕ → ℕ → List ℕ
-lead kind size = bytesOf 4 kind ++ (bytesOf 2 (lengthField size) ++ bytesOf 2 0)
+lead kind size = bytesOf 4 kind ++ (bytesOf 2 (lengthField (headerBytes current) size) ++ bytesOf 2 0)
 
 -- the bytes in front of the region of a CMD_INFO that ends at a position
 unfoldable pub top : ℕ → ℕ → List ℕ

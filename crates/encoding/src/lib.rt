@@ -9,6 +9,7 @@ ghost use Prim.Native.Nat.{_+_, _*_, _≤_};
 ghost use lib.ListN.{length, take};
 ghost use Rattle.rules.specs.Choose.{choose};
 ghost use Rattle.rules.specs.Bytes.{bytesOf, splice, swap16};
+ghost use Rattle.rules.specs.Version.{current, headerBytes};
 ghost use Rattle.rules.specs.Region.{lengthField};
 ghost use Rattle.rules.specs.Fields.{group0, groupMany};
 ghost use Rattle.rules.specs.Encode.{fieldOf, tlvOf, regionOf, numberBytes, fieldsFrom, flowHas, flowValue, flowBytes, flowFields, memberFields, groupFields};
@@ -34,16 +35,20 @@ pub const GROUP_DEL: u16 = 9;
 
 // ---- Fields
 
-// The length field of a value of so many bytes: the counterpart of `tlv::reader::value_size`.
+// How many of its TLV's header bytes a length counts in the device's version.
+const HEADER_BYTES: u64 = 8;
+
+// The length field of a value of so many bytes, in the device's version: the counterpart of `tlv::reader::value_size`.
 fn length_field(size: usize) -> u64
-    ensures { λ r. ⌜ r ≡ lengthField size ⌝ }
+    requires { ⌜ size ≤ longest ⌝ }
+    ensures { λ r. ⌜ r ≡ lengthField (headerBytes current) size ⌝ }
 {
-    size as u64
+    HEADER_BYTES + size as u64
 }
 
 // A TLV's first eight bytes: type, length, a pad of 0.
 fn put_lead(out: &mut [u8], at: usize, kind: u32, size: usize)
-    requires { ⌜ at + 8 ≤ length (now out) ⌝ }
+    requires { ⌜ (at + 8 ≤ length (now out)) × (size ≤ longest) ⌝ }
     ensures { λ _. ⌜ now (out .exit) ≡ splice at (lead kind size) (now (out .entry)) ⌝ }
 {
     wire::put(out, at, 4, kind as u64);
@@ -187,7 +192,7 @@ fn flow_user(command: u16, table: u16) -> u8
 
 // CMD_TYPE, and the first bytes of CMD_INFO, whose region stands in its place already, from byte 24 on to its end.
 fn put_top(out: &mut [u8], command: u16, end: usize)
-    requires { ⌜ (24 ≤ end) × (24 ≤ length (now out)) ⌝ }
+    requires { ⌜ (24 ≤ end) × (24 ≤ length (now out)) × (end ≤ longest) ⌝ }
     ensures { λ _. ⌜ now (out .exit) ≡ splice 0 (top command end) (now (out .entry)) ⌝ }
 {
     put_number(out, 0, 1, 2, command as u64);

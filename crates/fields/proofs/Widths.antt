@@ -17,8 +17,8 @@ number-below s w Absent h = one-le-pow w 256 (lit< tt)
 number-below s w (At a n) h = leAt-below w s a h
 number-below s w Fault h = one-le-pow w 256 (lit< tt)
 
-pub value-below : (s : List ℕ) (t w : ℕ) → ((j : ℕ) → getD s j 0 < 256) → ruleOf t .width ≤ w → value s t < 256 ^ w
+pub value-below : (h : ℕ) (s : List ℕ) (t w : ℕ) → ((j : ℕ) → getD s j 0 < 256) → ruleOf t .width ≤ w → value h s t < 256 ^ w
 unfolding value
-value-below s t w h n =
+value-below h s t w b n =
     let p : 256 ^ (ruleOf t .width) ≤ 256 ^ w = pow-le-pow-right (omega arith) n in
-    omega (arith, number-below s (ruleOf t .width) (field s t) h)
+    omega (arith, number-below s (ruleOf t .width) (field h s t) b)

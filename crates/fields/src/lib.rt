@@ -1,4 +1,5 @@
-// The table of fields, and a CMD_INFO's fields looked up by it in the region's index. Every function is equal to a rule of `rules`.
+// The table of fields, and a CMD_INFO's fields looked up by it in the region's index. Every function is equal to a rule of `rules`;
+// `header` is how many header bytes a length counts.
 ghost use mathlib.Core.Path.{_≡_};
 ghost use Prim.Native.Nat.{ℕ, _<_};
 ghost use lib.ListN.{getD};
@@ -266,29 +267,33 @@ pub fn rule_of(t: u32) -> FieldRule
 }
 
 // What the region holds of a field, at the width of its row.
-pub fn field(s: &[u8], places: &[usize; FIELD_TYPES], t: u32) -> Found
-    requires { ⌜ (Indexed (now s) (now places)) × (t < fieldTypes) ⌝ }
-    ensures { λ r. ⌜ r ≡ Fields·field (now (s .entry)) t ⌝ }
+pub fn field(s: &[u8], header: usize, places: &[usize; FIELD_TYPES], t: u32) -> Found
+    requires { ⌜ (Indexed header (now s) (now places)) × (t < fieldTypes) ⌝ }
+    ensures { λ r. ⌜ r ≡ Fields·field header (now (s .entry)) t ⌝ }
 {
     let rule = rule_of(t);
-    found::found(s, places, t, rule.width)
+    found::found(s, header, places, t, rule.width)
 }
 
 // The field stands there once, at its width.
-pub fn given(s: &[u8], places: &[usize; FIELD_TYPES], t: u32) -> bool
-    requires { ⌜ (Indexed (now s) (now places)) × (t < fieldTypes) ⌝ }
-    ensures { λ r. ⌜ r ≡ Fields·given (now (s .entry)) t ⌝ }
+pub fn given(s: &[u8], header: usize, places: &[usize; FIELD_TYPES], t: u32) -> bool
+    requires { ⌜ (Indexed header (now s) (now places)) × (t < fieldTypes) ⌝ }
+    ensures { λ r. ⌜ r ≡ Fields·given header (now (s .entry)) t ⌝ }
 {
-    found::is_at(field(s, places, t))
+    found::is_at(field(s, header, places, t))
 }
 
 // Its number, 0 where it is not given.
-pub fn value(s: &[u8], places: &[usize; FIELD_TYPES], t: u32) -> u64
-    requires { ⌜ (Indexed (now s) (now places)) × (t < fieldTypes) ⌝ }
-    ensures { λ r. ⌜ r ≡ Fields·value (now (s .entry)) t ⌝ }
+pub fn value(s: &[u8], header: usize, places: &[usize; FIELD_TYPES], t: u32) -> u64
+    requires { ⌜ (Indexed header (now s) (now places)) × (t < fieldTypes) ⌝ }
+    ensures { λ r. ⌜ r ≡ Fields·value header (now (s .entry)) t ⌝ }
 {
     let rule = rule_of(t);
-    found::number_in(s, rule.width, found::found(s, places, t, rule.width))
+    found::number_in(
+        s,
+        rule.width,
+        found::found(s, header, places, t, rule.width),
+    )
 }
 
 fn right(needed: bool, f: Found) -> bool
@@ -308,30 +313,37 @@ pub fn has_user(set: u8, who: u8) -> bool
 }
 
 // A field that is used is right; one that is not used is skipped.
-fn field_right(s: &[u8], places: &[usize; FIELD_TYPES], who: u8, t: u32, rule: FieldRule) -> bool
-    requires { ⌜ (Indexed (now s) (now places)) × (t < fieldTypes) × (rule ≡ ruleOf t) ⌝ }
-    ensures { λ r. ⌜ r ≡ fieldRight (now (s .entry)) who t ⌝ }
+fn field_right(
+    s: &[u8],
+    header: usize,
+    places: &[usize; FIELD_TYPES],
+    who: u8,
+    t: u32,
+    rule: FieldRule,
+) -> bool
+    requires { ⌜ (Indexed header (now s) (now places)) × (t < fieldTypes) × (rule ≡ ruleOf t) ⌝ }
+    ensures { λ r. ⌜ r ≡ fieldRight header (now (s .entry)) who t ⌝ }
 {
     if !has_user(rule.uses, who) {
         return true;
     }
     right(
         has_user(rule.needs, who),
-        found::found(s, places, t, rule.width),
+        found::found(s, header, places, t, rule.width),
     )
 }
 
 // No field is missing, repeated or of another width for who reads the region. No type past POP_VLAN is listed.
-pub fn fields_right(s: &[u8], places: &[usize; FIELD_TYPES], who: u8) -> bool
-    requires { ⌜ Indexed (now s) (now places) ⌝ }
-    ensures { λ r. ⌜ r ≡ fieldsRight (now (s .entry)) who ⌝ }
+pub fn fields_right(s: &[u8], header: usize, places: &[usize; FIELD_TYPES], who: u8) -> bool
+    requires { ⌜ Indexed header (now s) (now places) ⌝ }
+    ensures { λ r. ⌜ r ≡ fieldsRight header (now (s .entry)) who ⌝ }
 {
     let rules = table();
     let mut t = FIELD_TYPES as u32;
     while 0 < t {
         t -= 1;
         let rule = rules[t as usize];
-        if !field_right(s, places, who, t, rule) {
+        if !field_right(s, header, places, who, t, rule) {
             return false;
         }
     }

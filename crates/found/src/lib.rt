@@ -10,10 +10,10 @@ use rules::FIELD_TYPES;
 use rules::Found;
 use tlv::reader;
 
-// What the region holds of a type, at a width; width 0 is a nest, of any length.
-pub fn found(s: &[u8], places: &[usize; FIELD_TYPES], t: u32, width: u8) -> Found
-    requires { ⌜ (Indexed (now s) (now places)) × (t < fieldTypes) ⌝ }
-    ensures { λ r. ⌜ r ≡ lookup (now (s .entry)) t width ⌝ }
+// What the region holds of a type, at a width; width 0 is a nest, of any length. `header` is how many header bytes a length counts.
+pub fn found(s: &[u8], header: usize, places: &[usize; FIELD_TYPES], t: u32, width: u8) -> Found
+    requires { ⌜ (Indexed header (now s) (now places)) × (t < fieldTypes) ⌝ }
+    ensures { λ r. ⌜ r ≡ lookup header (now (s .entry)) t width ⌝ }
 {
     let place = places[t as usize];
     if place < 8 {
@@ -22,7 +22,7 @@ pub fn found(s: &[u8], places: &[usize; FIELD_TYPES], t: u32, width: u8) -> Foun
         }
         return Found::Fault;
     }
-    let size = reader::value_size(wire::le16(s, place - 4));
+    let size = reader::value_size(header, wire::le16(s, place - 4));
     if (width == 0) | (size == width as usize) {
         Found::At(place, size)
     } else {

@@ -12,6 +12,7 @@ use Rattle.rules.specs.Descriptor.{Fetched, descriptorAt, descriptor, fetch}
 use Rattle.rules.specs.Descriptor.Fetched.{Faulty, Payload}
 use Rattle.rules.specs.Registers.{commandRing, currentTerms, termsOf, Written, access, taken, write, withRing, withLinks}
 use Rattle.rules.specs.Tables.{Tables, emptyTables}
+use Rattle.rules.specs.Version.{known}
 use Rattle.rules.specs.Journal.{Progress, begin, ready, opened, feeds, counted, header, completion}
 use Rattle.rules.specs.Switch.{Switch, Borrowed, Carried, carry, carriedSlot, slotRecord, readEffect, writeEffect, linked, processEffect, framed, headed, refusal, effect}
 use Rattle.rules.specs.declared.Terms.{Terms}
@@ -39,7 +40,7 @@ pub record JournalInvariant (ports : ℕ) (s : Switch) (l : JournalHistory) : Ty
   pub reads : feeds begin (header (currentTerms ports) ++ l .journal) ≡ ready (account ports (s .tables) l)
 
 pub journal-begins : (ports : ℕ) (s : Switch) → s .registers .ports ≡ ports → 1 ≤ ports → ports ≤ maxPorts → s .tables ≡ emptyTables → JournalInvariant ports s noRecords
-unfolding noRecords opened
+unfolding noRecords opened known
 journal-begins ports s p lo hi t =
     record { ports-are = p; low = lo; high = hi; in-order = rw t empty-good; reads = rw (append-nil, t) (header-opens (currentTerms ports) refl lo hi) }
 

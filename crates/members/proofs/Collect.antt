@@ -87,19 +87,19 @@ none-right count true =
 none-right count false = refl
 
 -- Where the reading of a region stands: n members are at the front of the 62 numbers, and the rest of the region decides
-pub record Reading (s : List ℕ) (vlan : ℕ) (lows : List ℕ) (n at : ℕ) : Type 0 where
+pub record Reading (h : ℕ) (s : List ℕ) (vlan : ℕ) (lows : List ℕ) (n at : ℕ) : Type 0 where
   inside : at ≤ length s
-  reached : Reached s at
+  reached : Reached h s at
   few : n ≤ 62
   places : length lows ≡ 62
   padded : lows ≡ pad (take n lows)
-  rest : membersIn s vlan ≡ choose (wellFormed s) (collect s vlan (take n lows) (tlvs s at)) nobody
+  rest : membersIn h s vlan ≡ choose (wellFormed h s) (collect s vlan (take n lows) (tlvs h s at)) nobody
 
-reading-starts : (s : List ℕ) (vlan : ℕ) → Reading s vlan (replicate 62 0) 0 0
+reading-starts : (h : ℕ) (s : List ℕ) (vlan : ℕ) → Reading h s vlan (replicate 62 0) 0 0
 unfolding pad membersIn
-reading-starts s vlan = record { inside = omega arith; reached = refl; few = omega arith; places = refl; padded = refl; rest = refl }
+reading-starts h s vlan = record { inside = omega arith; reached = refl; few = omega arith; places = refl; padded = refl; rest = refl }
 
-module _ (s : List ℕ) (vlan : ℕ) (lows : List ℕ) (n at : ℕ) (r : Reading s vlan lows n at) where
+module _ (h : ℕ) (s : List ℕ) (vlan : ℕ) (lows : List ℕ) (n at : ℕ) (r : Reading h s vlan lows n at) where
   read-so-far : length (take n lows) ≡ n
   read-so-far = length-take-le n lows (omega arith)
 
@@ -107,43 +107,43 @@ module _ (s : List ℕ) (vlan : ℕ) (lows : List ℕ) (n at : ℕ) (r : Reading
   has-room x b = member-room vlan n x (leAt 4 s (x .start)) (elem (lowAt s x) (take n lows)) b
 
   -- what a TLV makes of the members before it
-  takes : (x : Tlv) (b : Bool) → stepAt s at ≡ Next x → rightAfter s vlan (take n lows) n x ≡ b
-      → membersIn s vlan ≡ choose (wellFormed s) (choose b (collect s vlan (take n lows ++ (lowAt s x ∷ [])) (tlvs s (tlvEnd x))) nobody) nobody
-  takes x b e h = r .rest ∙ rw (tlvs-next s at x e, collect-cons s vlan (take n lows) x (tlvs s (tlvEnd x)) b (rw read-so-far h))
+  takes : (x : Tlv) (b : Bool) → stepAt h s at ≡ Next x → rightAfter s vlan (take n lows) n x ≡ b
+      → membersIn h s vlan ≡ choose (wellFormed h s) (choose b (collect s vlan (take n lows ++ (lowAt s x ∷ [])) (tlvs h s (tlvEnd x))) nobody) nobody
+  takes x b e q = r .rest ∙ rw (tlvs-next h s at x e, collect-cons s vlan (take n lows) x (tlvs h s (tlvEnd x)) b (rw read-so-far q))
 
-  reading-next : (x : Tlv) → stepAt s at ≡ Next x → rightAfter s vlan (take n lows) n x ≡ true → Reading s vlan (set lows n (lowAt s x)) (n + 1) (after at (stepAt s at))
+  reading-next : (x : Tlv) → stepAt h s at ≡ Next x → rightAfter s vlan (take n lows) n x ≡ true → Reading h s vlan (set lows n (lowAt s x)) (n + 1) (after at (stepAt h s at))
   reading-next x e b =
       let room = has-room x b in
-      rw (after-next s at x e)
+      rw (after-next h s at x e)
       (record {
-        inside = step-inside s at x e .fits;
-        reached = reached-next s at x e (r .reached);
+        inside = step-inside h s at x e .fits;
+        reached = reached-next h s at x e (r .reached);
         few = omega arith;
         places = rw length-set (r .places);
         padded = store-padded lows n (lowAt s x) room (r .places) (r .padded);
         rest = rw (store-members lows n (lowAt s x) room (r .places)) (takes x true e b);
       })
 
-  reading-fails : (x : Tlv) → stepAt s at ≡ Next x → rightAfter s vlan (take n lows) n x ≡ false → membersIn s vlan ≡ nobody
-  reading-fails x e b = takes x false e b ∙ by-test (wellFormed s) (λ p. simp p) (λ p. simp p)
+  reading-fails : (x : Tlv) → stepAt h s at ≡ Next x → rightAfter s vlan (take n lows) n x ≡ false → membersIn h s vlan ≡ nobody
+  reading-fails x e b = takes x false e b ∙ by-test (wellFormed h s) (λ p. simp p) (λ p. simp p)
 
-  reading-ends : (count : ℕ) → stepAt s at ≡ End
-      → record { right = leb 1 count && leb count 62 && eqb n count; lows = lows } ≡ listed count (membersIn s vlan)
+  reading-ends : (count : ℕ) → stepAt h s at ≡ End
+      → record { right = leb 1 count && leb count 62 && eqb n count; lows = lows } ≡ listed count (membersIn h s vlan)
   unfolding listed membersRight collect
-  reading-ends count e = rw (r .rest, reached-end s at e (r .reached), tlvs-end s at e, read-so-far, ← r .padded)
+  reading-ends count e = rw (r .rest, reached-end h s at e (r .reached), tlvs-end h s at e, read-so-far, ← r .padded)
 
-  reading-stops : stepAt s at ≡ Fault → membersIn s vlan ≡ nobody
-  reading-stops e = r .rest ∙ rw (reached-fault s at e (r .reached))
+  reading-stops : stepAt h s at ≡ Fault → membersIn h s vlan ≡ nobody
+  reading-stops e = r .rest ∙ rw (reached-fault h s at e (r .reached))
 
 -- Where the list stands: as its members so far leave it, or past a TLV that is no member, with 63 for their number
-pub record Standing (s : List ℕ) (vlan : ℕ) (lows : List ℕ) (n at : ℕ) : Type 0 where
+pub record Standing (h : ℕ) (s : List ℕ) (vlan : ℕ) (lows : List ℕ) (n at : ℕ) : Type 0 where
   pub inside : at ≤ length s
   pub few : n ≤ 63
-  pub reads : n ≤ 62 → Reading s vlan lows n at
-  pub fails : 62 < n → membersIn s vlan ≡ nobody
+  pub reads : n ≤ 62 → Reading h s vlan lows n at
+  pub fails : 62 < n → membersIn h s vlan ≡ nobody
 
-pub standing-starts : (s : List ℕ) (vlan : ℕ) → Standing s vlan (replicate 62 0) 0 0
-standing-starts s vlan = record { inside = omega arith; few = omega arith; reads = λ _. reading-starts s vlan; fails = λ h. absurd (omega arith) }
+pub standing-starts : (h : ℕ) (s : List ℕ) (vlan : ℕ) → Standing h s vlan (replicate 62 0) 0 0
+standing-starts h s vlan = record { inside = omega arith; few = omega arith; reads = λ _. reading-starts h s vlan; fails = λ g. absurd (omega arith) }
 
 -- neither test of a disjunction holds; or one does
 neither : (a b : Bool) → Holds (not (a || b)) → Holds (not a) × (b ≡ false)
@@ -156,57 +156,57 @@ either true b e h = tt
 either false false e h = h
 either false true e h = true-or-false true refl e
 
-module _ (s : List ℕ) (vlan : ℕ) (lows : List ℕ) (n at : ℕ) (w : Standing s vlan lows n at) where
-  module _ (goes : Holds (not (stops (stepAt s at) || ltb 62 n))) where
+module _ (h : ℕ) (s : List ℕ) (vlan : ℕ) (lows : List ℕ) (n at : ℕ) (w : Standing h s vlan lows n at) where
+  module _ (goes : Holds (not (stops (stepAt h s at) || ltb 62 n))) where
     room : n ≤ 62
-    room = ltb-false 62 n (neither (stops (stepAt s at)) (ltb 62 n) goes .1)
+    room = ltb-false 62 n (neither (stops (stepAt h s at)) (ltb 62 n) goes .1)
 
-    met : (x : Tlv) × (stepAt s at ≡ Next x)
-    met = goes-on (stepAt s at) (neither (stops (stepAt s at)) (ltb 62 n) goes .0)
+    met : (x : Tlv) × (stepAt h s at ≡ Next x)
+    met = goes-on (stepAt h s at) (neither (stops (stepAt h s at)) (ltb 62 n) goes .0)
 
-    pub standing-less : length s - after at (stepAt s at) < length s - at
-    standing-less = after-less s at _ (met .1)
+    pub standing-less : length s - after at (stepAt h s at) < length s - at
+    standing-less = after-less h s at _ (met .1)
 
     -- a TLV that is a member is added, and one that is none fails the list
-    standing-to : (x : Tlv) → stepAt s at ≡ Next x
-        → Standing s vlan (stored s vlan lows n (Next x)) (counted s vlan lows n (Next x)) (after at (stepAt s at))
+    standing-to : (x : Tlv) → stepAt h s at ≡ Next x
+        → Standing h s vlan (stored s vlan lows n (Next x)) (counted s vlan lows n (Next x)) (after at (stepAt h s at))
     unfolding stored counted
     standing-to x e =
         by-test (rightAfter s vlan (take n lows) n x)
-        (λ b. let r = has-room s vlan lows n at (w .reads room) x b in
+        (λ b. let r = has-room h s vlan lows n at (w .reads room) x b in
         simp b (record {
           inside = after-inside;
           few = omega arith;
-          reads = λ _. reading-next s vlan lows n at (w .reads room) x e b;
-          fails = λ h. absurd (omega arith);
+          reads = λ _. reading-next h s vlan lows n at (w .reads room) x e b;
+          fails = λ g. absurd (omega arith);
         }))
         (λ b. simp b (record {
           inside = after-inside;
           few = omega arith;
-          reads = λ h. absurd (omega arith);
-          fails = λ _. reading-fails s vlan lows n at (w .reads room) x e b;
+          reads = λ g. absurd (omega arith);
+          fails = λ _. reading-fails h s vlan lows n at (w .reads room) x e b;
         }))
       where
-        after-inside : after at (stepAt s at) ≤ length s
-        after-inside = rw (after-next s at x e) (step-inside s at x e .fits)
+        after-inside : after at (stepAt h s at) ≤ length s
+        after-inside = rw (after-next h s at x e) (step-inside h s at x e .fits)
 
-    pub standing-on : Standing s vlan (stored s vlan lows n (stepAt s at)) (counted s vlan lows n (stepAt s at)) (after at (stepAt s at))
+    pub standing-on : Standing h s vlan (stored s vlan lows n (stepAt h s at)) (counted s vlan lows n (stepAt h s at)) (after at (stepAt h s at))
     standing-on =
-        subst (λ (t : Step). Standing s vlan (stored s vlan lows n t) (counted s vlan lows n t) (after at (stepAt s at))) (sym (met .1)) (standing-to (met .0) (met .1))
+        subst (λ (t : Step). Standing h s vlan (stored s vlan lows n t) (counted s vlan lows n t) (after at (stepAt h s at))) (sym (met .1)) (standing-to (met .0) (met .1))
 
-  ends-at : (count : ℕ) (t : Step) → stepAt s at ≡ t → n ≤ 62 → Holds (stops t) → endedAt t lows n count ≡ listed count (membersIn s vlan)
+  ends-at : (count : ℕ) (t : Step) → stepAt h s at ≡ t → n ≤ 62 → Holds (stops t) → endedAt t lows n count ≡ listed count (membersIn h s vlan)
   unfolding stops endedAt isEnd listed pad
-  ends-at count (Next x) e few h = absurd h
-  ends-at count End e few h = simp (le-leb n 62 few) (reading-ends s vlan lows n at (w .reads few) count e)
-  ends-at count Fault e few h = rw (reading-stops s vlan lows n at (w .reads few) e, none-right count false)
+  ends-at count (Next x) e few g = absurd g
+  ends-at count End e few g = simp (le-leb n 62 few) (reading-ends h s vlan lows n at (w .reads few) count e)
+  ends-at count Fault e few g = rw (reading-stops h s vlan lows n at (w .reads few) e, none-right count false)
 
-  fails-at : (count : ℕ) (t : Step) → 62 < n → endedAt t lows n count ≡ listed count (membersIn s vlan)
+  fails-at : (count : ℕ) (t : Step) → 62 < n → endedAt t lows n count ≡ listed count (membersIn h s vlan)
   unfolding endedAt listed pad
-  fails-at count t h =
-      rw (w .fails h, none-right count false) (by-test (isEnd t) (λ p. simp (p, lt-leb n 62 h)) (λ p. simp p))
+  fails-at count t g =
+      rw (w .fails g, none-right count false) (by-test (isEnd t) (λ p. simp (p, lt-leb n 62 g)) (λ p. simp p))
 
-  pub standing-ends : (count : ℕ) → Holds (stops (stepAt s at) || ltb 62 n) → endedAt (stepAt s at) lows n count ≡ listed count (membersIn s vlan)
-  standing-ends count h =
+  pub standing-ends : (count : ℕ) → Holds (stops (stepAt h s at) || ltb 62 n) → endedAt (stepAt h s at) lows n count ≡ listed count (membersIn h s vlan)
+  standing-ends count g =
       by-lt 62 n
-      (λ l p. fails-at count (stepAt s at) l)
-      (λ l p. ends-at count (stepAt s at) refl l (either (stops (stepAt s at)) (ltb 62 n) p h))
+      (λ l p. fails-at count (stepAt h s at) l)
+      (λ l p. ends-at count (stepAt h s at) refl l (either (stops (stepAt h s at)) (ltb 62 n) p g))

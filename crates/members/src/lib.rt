@@ -106,15 +106,15 @@ fn halts(step: Step, n: usize) -> bool
     tlv::stops(step) | (MAX_MEMBERS < n)
 }
 
-// The members in a region, compared with GROUP_COUNT. One reader goes over the region, and is kept in a local over the loop.
-pub fn read(s: &[u8], vlan: u16, count: u64) -> Members
-    ensures { λ r. ⌜ r ≡ listed count (membersIn (now (s .entry)) vlan) ⌝ }
+// The members in a region whose lengths count so many header bytes, compared with GROUP_COUNT. One reader goes over the region, and is kept in a local over the loop.
+pub fn read(s: &[u8], header: usize, vlan: u16, count: u64) -> Members
+    ensures { λ r. ⌜ r ≡ listed count (membersIn header (now (s .entry)) vlan) ⌝ }
 {
     let mut r = reader::new(s, 0);
     let mut lows = [0u16; MAX_MEMBERS];
     let mut n = 0;
     loop {
-        let step = reader::next(r);
+        let step = reader::next(r, header);
         if halts(step, n) {
             return ended(step, lows, n, count);
         }

@@ -84,10 +84,12 @@ module _ {M : Type 1} (𝓤 : URA M) (H : Heap 𝓤) (A : Atoms 𝓤) (W : Given
         qed W (‵ (held κ d (T′.lowered d)) ∷ []) ∵ owned ! usize (Is usize) (uint-makes 𝓤 H A W w64) n _ (refl, fits) $ move ! (1 ∷ 0 ∷ []) $
         by ! (own-put 𝓤 H A W (D (κ, tt)) (L (κ, tt)) 1 (fields κ d) n (T′.lowered d))
 
-  -- it is passed by itself
-  pub lends : (q : Share) (d : Reader) (w : Val)
-      → ent 𝓤 (sep 𝓤 (sep 𝓤 (A .lft κ q) (sem 𝓤 H A ftrue)) (sem 𝓤 H A (held κ d w))) (sep 𝓤 (sep 𝓤 (sep 𝓤 (A .lft κ q) (sem 𝓤 H A ftrue)) (sem 𝓤 H A (owns (B (κ, tt) ∷ []) (d, tt) (w ∷ [], tt)))) (emp 𝓤))
-  lends q d w = qed W ((‵ (flft κ q) ⊛ ‵ ftrue) ∷ ‵ (held κ d w) ∷ []) ∵ nothing ! $ move ! (2 ∷ 0 ∷ []) $ fjoin ! $ move ! (1 ∷ 0 ∷ []) $ join ! $ frame ! $ done !
+  -- it is passed beside a number
+  pub lends : (q : Share) (d : Reader) (w : Val) (h : ℕ) → h < 2 ^ 64
+      → ent 𝓤 (sep 𝓤 (sep 𝓤 (A .lft κ q) (sem 𝓤 H A ftrue)) (sem 𝓤 H A (held κ d w))) (sep 𝓤 (sep 𝓤 (sep 𝓤 (A .lft κ q) (sem 𝓤 H A ftrue)) (sem 𝓤 H A (owns (B (κ, tt) ∷ usize ∷ []) (d, (h, tt)) (w ∷ [], (vint w64 h ∷ [], tt))))) (emp 𝓤))
+  lends q d w h fits =
+      qed W ((‵ (flft κ q) ⊛ ‵ ftrue) ∷ ‵ (held κ d w) ∷ []) ∵ nothing ! $ owned ! usize (Is usize) (uint-makes 𝓤 H A W w64) h _ (refl, fits) $ fjoin ! $
+      move ! (2 ∷ 0 ∷ []) $ fjoin ! $ move ! (1 ∷ 0 ∷ []) $ join ! $ frame ! $ done !
 
   -- a reader's machine value has the struct's MIR type, under any name for the lifetime; and a step's has the enum's
   pub typed : (ℓ : Lifetime) (d : Reader) (w : Val) → Is (B (κ, tt)) d (w ∷ []) → HasType (T′.mir ℓ) w

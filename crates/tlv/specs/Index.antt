@@ -1,5 +1,5 @@
 -- An index of a region: a number for each type below 44, which says where the one value of that type starts, or that there is none, or
--- more than one. A value starts at 8 or later, so 0 is left for none and 1 for more than one.
+-- more than one. A value starts at 8 or later, so 0 is left for none and 1 for more than one. h: as in the rules' Region.
 use Prim.Native.Nat.{ℕ, _-_, _<_}
 use mathlib.Core.Path.{_≡_}
 use mathlib.Core.Bool.{Bool, true, false}
@@ -15,14 +15,14 @@ use Rattle.rules.specs.declared.Found.{Found}
 use Rattle.rules.specs.declared.Found.the-variants.{Absent, At, Fault}
 
 -- the length of the value that starts at a position, from the length field before it
-unfoldable pub sizeAt : List ℕ → ℕ → ℕ
-sizeAt s start = valueSize (leAt 2 s (start - 4))
+unfoldable pub sizeAt : ℕ → List ℕ → ℕ → ℕ
+sizeAt h s start = valueSize h (leAt 2 s (start - 4))
 
 -- what a number of an index says of its type, at a width
-unfoldable pub foundAt : List ℕ → ℕ → ℕ → Found
-foundAt s width place =
+unfoldable pub foundAt : ℕ → List ℕ → ℕ → ℕ → Found
+foundAt h s width place =
     choose (ltb place 8) (choose (eqb place 0) Absent Fault)
-    (choose (fitsWidth width (sizeAt s place)) (At place (sizeAt s place)) Fault)
+    (choose (fitsWidth width (sizeAt h s place)) (At place (sizeAt h s place)) Fault)
 
 -- what one more value of its type makes of a number
 unfoldable pub marked : ℕ → ℕ → ℕ
@@ -46,5 +46,5 @@ isEnd End = true
 isEnd NoTlv = false
 
 -- an index tells what its region holds of every type below 44
-pub record Indexed (s : List ℕ) (places : List ℕ) : Type 0 where
-  pub tells : (t width : ℕ) → t < 44 → foundAt s width (getD places t 0) ≡ lookup s t width
+pub record Indexed (h : ℕ) (s : List ℕ) (places : List ℕ) : Type 0 where
+  pub tells : (t width : ℕ) → t < 44 → foundAt h s width (getD places t 0) ≡ lookup h s t width

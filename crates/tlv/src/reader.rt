@@ -1,16 +1,18 @@
 // A reader of a region, which holds the borrowed payload and a position. Functions over a struct that holds a reference are proved by
-// walks, so those here are thin: `step` and `after` do the work on a slice and numbers.
+// walks, so those here are thin: `step` and `after` do the work on a slice and numbers. `header` is how many of its TLV's header bytes a
+// length counts.
 ghost use mathlib.Core.Path.{_≡_};
 ghost use Prim.Native.Nat.{_<_, _^_};
 ghost use Rattle.rules.specs.Region.{valueSize, filled as Region·filled, stepAt, after as Region·after};
 use rules::Step;
 use rules::Tlv;
 
-// The length of a value, from its TLV's length field.
-pub fn value_size(field: u16) -> usize
-    ensures { λ r. ⌜ r ≡ valueSize field ⌝ }
+// The length of a value, from its TLV's length field; 0 where the field is too small to be one.
+pub fn value_size(header: usize, field: u16) -> usize
+    ensures { λ r. ⌜ r ≡ valueSize header field ⌝ }
 {
-    field as usize
+    let n = field as usize;
+    if n < header { 0 } else { n - header }
 }
 
 fn filled(n: usize) -> usize
@@ -21,8 +23,8 @@ fn filled(n: usize) -> usize
 }
 
 // What stands at a position: a TLV that is whole with its fill, the region's end, or a fault.
-fn step(s: &[u8], at: usize) -> Step
-    ensures { λ r. ⌜ r ≡ stepAt (now (s .entry)) at ⌝ }
+fn step(s: &[u8], header: usize, at: usize) -> Step
+    ensures { λ r. ⌜ r ≡ stepAt header (now (s .entry)) at ⌝ }
 {
     if at == s.len() {
         return Step::End;
@@ -33,7 +35,11 @@ fn step(s: &[u8], at: usize) -> Step
     if s.len() - 8 < at {
         return Step::Fault;
     }
-    let size = value_size(wire::le16(s, at + 4));
+    let field = wire::le16(s, at + 4);
+    if (field as usize) < header {
+        return Step::Fault;
+    }
+    let size = value_size(header, field);
     if s.len() < at + 8 + filled(size) {
         return Step::Fault;
     }
@@ -69,10 +75,10 @@ pub fn new<'a>(payload: &'a [u8], at: usize) -> Reader<'a>
 }
 
 // The TLV at the position, the end or a fault.
-pub fn next<'a>(r: Reader<'a>) -> Step
-    ensures { λ s. ⌜ s ≡ stepAt (now (r .entry .payload)) (r .entry .at) ⌝ }
+pub fn next<'a>(r: Reader<'a>, header: usize) -> Step
+    ensures { λ s. ⌜ s ≡ stepAt header (now (r .entry .payload)) (r .entry .at) ⌝ }
 {
-    step(r.payload, r.at)
+    step(r.payload, header, r.at)
 }
 
 // The reader past the step that was read at its position.

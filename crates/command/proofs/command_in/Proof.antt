@@ -51,7 +51,7 @@ past-flows : (c : tie.Else3)
     → let a = c .before .before .before .before .args in
     let s = now (a .s) in
     commandIn (a .terms) (a .c) s
-    ≡ choose (eqb (a .c) 7) (groupIn (a .terms) s GroupAdd) (choose (eqb (a .c) 8) (groupIn (a .terms) s GroupMod) (groupKeyIn s))
+    ≡ choose (eqb (a .c) 7) (groupIn (a .terms) s GroupAdd) (choose (eqb (a .c) 8) (groupIn (a .terms) s GroupMod) (groupKeyIn (a .terms) s))
 unfolding commandIn
 past-flows c = simp (ne-eqb _ _ (c .before .before .if1 .left), ne-eqb _ _ (c .before .if2 .left), ne-eqb _ _ (c .if3 .left))
 

@@ -11,6 +11,9 @@ use borrow.Author.Needs.{needs}
 use Rattle.command.proofs.decode.Statement.{statement}
 use Rattle.command.proofs.decode.Tie as tie
 
+header-bytes-requires : tie.Need-header-bytes-requires
+header-bytes-requires c κs = search needs
+
 index-of-requires : tie.Need-index-of-requires
 index-of-requires c κs = search needs
 
@@ -36,6 +39,7 @@ returns c =
     let f = i .before .before .before .before .before in
     let x = f .before .before .before in
     simp (
+      ← x .before .header-bytes .ensures,
       ← f .found .ensures,
       ← i .before .before .found2 .ensures,
       ← x .index-of .ensures .1,
@@ -49,17 +53,19 @@ returns c =
 past-top : (c : tie.Else1)
     → let g = c .before .before .before in
     let f = g .before .before .before in
-    let a = f .before .before .before .before .before .args in
+    let b = f .before .before .before .before in
+    let a = b .before .before .args in
     let s = now (a .payload) in
     decode (a .terms) s
     ≡ need (isCommand (numberIn s 2 (f .found .result))) Enotsup
-    (need (wellFormed (nestIn s (g .found2 .result))) Einval (commandIn (a .terms) (numberIn s 2 (f .found .result)) (nestIn s (g .found2 .result))))
+    (need (wellFormed (b .header-bytes .result) (nestIn s (g .found2 .result))) Einval (commandIn (a .terms) (numberIn s 2 (f .found .result)) (nestIn s (g .found2 .result))))
 unfolding decode need commandType commandInfo
 past-top c =
     let i = c .before in
     let f = i .before .before .before .before .before in
     let x = f .before .before .before in
     simp (
+      ← x .before .header-bytes .ensures,
       ← f .found .ensures,
       ← i .before .before .found2 .ensures,
       ← x .index-of .ensures .1,
@@ -88,9 +94,10 @@ returns-2 c =
 past-type : (c : tie.Else2)
     → let n = c .before .before in
     let g = n .before .before .before .before in
-    let a = g .before .before .before .before .before .before .before .before .args in
+    let b = g .before .before .before .before .before .before .before in
+    let a = b .before .before .args in
     let s = now (a .payload) in
-    decode (a .terms) s ≡ need (wellFormed (nestIn s (g .found2 .result))) Einval (commandIn (a .terms) (n .number-in .result) (nestIn s (g .found2 .result)))
+    decode (a .terms) s ≡ need (wellFormed (b .header-bytes .result) (nestIn s (g .found2 .result))) Einval (commandIn (a .terms) (n .number-in .result) (nestIn s (g .found2 .result)))
 unfolding need
 past-type c =
     let k = c .before in
@@ -128,6 +135,7 @@ pub decode-spec : {M : Type 1} → statement M
 decode-spec =
     tie.close
     (tie.spec
+    header-bytes-requires
     index-of-requires
     found-requires
     found-requires-2

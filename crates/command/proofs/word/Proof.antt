@@ -12,7 +12,7 @@ cast-result : tie.Need-cast-result
 cast-result c =
     let a = c .before .before .args in
     let k = c .before .shared-slice-known .given in
-    omega (arith, value-below (now (a .s)) (a .t) 4 (λ j. k j .fits) (c .before .before .pre .2), c .value .ensures)
+    omega (arith, value-below (a .header) (now (a .s)) (a .t) 4 (λ j. k j .fits) (c .before .before .pre .2), c .value .ensures)
 
 returns : tie.Need-returns
 returns c = search needs

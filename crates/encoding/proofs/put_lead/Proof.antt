@@ -12,7 +12,7 @@ returns c =
     let first = size .before .before .before .before in
     third .put3 .ensures
     ∙ rw (second .put2 .ensures, size .length-field .ensures, first .put .ensures)
-    (lead-put _ _ _ _ (first .before .before .before .pre))
+    (lead-put _ _ _ _ (first .before .before .before .pre .0))
 
 pub put-lead-spec : {M : Type 1} → statement M
 put-lead-spec =

@@ -8,7 +8,7 @@ returns : tie.Need-returns
 returns c =
     let info = c .before .before in
     let type = info .before .before .before .before in
-    top-put _ _ (omega (arith, type .before .before .before .pre .1)) (type .put-number .ensures) (info .put-lead .ensures)
+    top-put _ _ (omega (arith, type .before .before .before .pre)) (type .put-number .ensures) (info .put-lead .ensures)
 
 pub put-top-spec : {M : Type 1} → statement M
 put-top-spec =

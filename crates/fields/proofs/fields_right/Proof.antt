@@ -12,10 +12,10 @@ use Rattle.fields.proofs.fields_right.Statement.{statement}
 use Rattle.fields.proofs.fields_right.Tie as tie
 
 abbrev Inv-loop : tie.InvT-loop
-Inv-loop s places who rules t₀ t = (fieldsRight s who ≡ everyBelow t (fieldRight s who)) × (t ≤ fieldTypes)
+Inv-loop s header places who rules t₀ t = (fieldsRight header s who ≡ everyBelow t (fieldRight header s who)) × (t ≤ fieldTypes)
 
 abbrev μ-loop : tie.MeasureT-loop
-μ-loop s places who rules t₀ t = t
+μ-loop s header places who rules t₀ t = t
 
 table-requires : tie.Need-table-requires Inv-loop μ-loop
 table-requires c κs = search needs

@@ -100,7 +100,7 @@ use Rattle.members.proofs.read.Code as code
 use Rattle.members.proofs.read.Code.Mir.{turn-1, t-5}
 
 abbrev stayed : Stays (read.ended .signature .params) (read.ended .kept)
-stayed = (stay-none-slice (0 ∷ []) tt (plain (λ _. u8)) yes, (stay-none (λ _. u16) yes, (stay-none (λ _. u64) yes, tt)))
+stayed = (stay-none-slice (0 ∷ []) tt (plain (λ _. u8)) yes, (stay-none (λ _. usize) yes, (stay-none (λ _. u16) yes, (stay-none (λ _. u64) yes, tt))))
 
 abbrev slice : Ty
 slice = sliceTy (tyRef (named 0) imm (tyInt w8))
@@ -119,11 +119,11 @@ abbrev zeros : Val
 zeros = arrayVal (replicate 62 (vint w16 0))
 
 -- where a list stands
-record State (bytes : List ℕ) (vlan : ℕ) : Type 0 where
+record State (h : ℕ) (bytes : List ℕ) (vlan : ℕ) : Type 0 where
   at : ℕ
   n : ℕ
   lows : List ℕ
-  standing : Standing bytes vlan lows n at
+  standing : Standing h bytes vlan lows n at
 
 module _ {M : Type 1} (𝓤 : URA M) (H : Heap 𝓤) (A : Atoms 𝓤) (W : Given 𝓤 H A) (mem′ : Memory → SProp 𝓤) (run : Routine → Fun 𝓤) where
   -- the contracts that the proof cites, and that tables meet them
@@ -153,26 +153,26 @@ module _ {M : Type 1} (𝓤 : URA M) (H : Heap 𝓤) (A : Atoms 𝓤) (W : Given
     known-add : Triple 𝓤 (𝓣 .C #members·add) Add
     known-ended : Triple 𝓤 (𝓣 .C #members·ended) Ended
 
-  module _ (κ : Lft) (q : Share) (s : RefT (List ℕ)) (vlan count : ℕ) (short : length (s .now) < 2 ^ 64) (vlan-fits : vlan < 2 ^ 16) (count-fits : count < 2 ^ 64) where
+  module _ (κ : Lft) (q : Share) (s : RefT (List ℕ)) (h vlan count : ℕ) (short : length (s .now) < 2 ^ 64) (h-fits : h < 2 ^ 64) (vlan-fits : vlan < 2 ^ 16) (count-fits : count < 2 ^ 64) where
     -- the machine value of s
     abbrev v : Val
     v = sliceVal (s .ptr) (length (s .now))
 
     abbrev vals : Vals read.signature (κ, tt)
-    vals = (v ∷ [], (vint w16 vlan ∷ [], (vint w64 count ∷ [], tt)))
+    vals = (v ∷ [], (vint w64 h ∷ [], (vint w16 vlan ∷ [], (vint w64 count ∷ [], tt))))
 
     abbrev entry : SProp 𝓤
-    entry = onEntry 𝓤 H A read.signature (κ, tt) (q, tt) (s, (vlan, (count, tt))) vals
+    entry = onEntry 𝓤 H A read.signature (κ, tt) (q, tt) (s, (h, (vlan, (count, tt)))) vals
 
     abbrev Post : Val → SProp 𝓤
-    Post = walkOf 𝓤 H A read.ended stayed (read.clauses 𝓤 H A mem′ run) .post (((κ, tt), (q, tt), tt, (s, (vlan, (count, tt))), vals), tt)
+    Post = walkOf 𝓤 H A read.ended stayed (read.clauses 𝓤 H A mem′ run) .post (((κ, tt), (q, tt), tt, (s, (h, (vlan, (count, tt)))), vals), tt)
 
     -- the reader at a position, what it reads there, and the numbers lent at l under a name
     abbrev d : ℕ → Reader
     d i = record { payload = s; at = i }
 
     abbrev t : ℕ → Step
-    t i = stepAt (now s) i
+    t i = stepAt h (now s) i
 
     abbrev lent : ℕ → GName → List ℕ → RefT (List ℕ)
     lent l γ ys = record { ptr = (l, 0); name = γ; now = ys }
@@ -182,7 +182,7 @@ module _ {M : Type 1} (𝓤 : URA M) (H : Heap 𝓤) (A : Atoms 𝓤) (W : Given
     to-new = (((κ, tt), (q, tt), tt, (s, (0, tt)), (v ∷ [], (vint w64 0 ∷ [], tt))), tt)
 
     abbrev to-next : ℕ → Next .Ghost
-    to-next i = (((κ, tt), (q, tt), tt, (d i, tt), (T′.lowered (d i) ∷ [], tt)), tt)
+    to-next i = (((κ, tt), (q, tt), tt, (d i, (h, tt)), (T′.lowered (d i) ∷ [], (vint w64 h ∷ [], tt))), tt)
 
     abbrev to-skip : ℕ → Val → Skip .Ghost
     to-skip i u = (((κ, tt), (q, tt), tt, (d i, (t i, tt)), (T′.lowered (d i) ∷ [], (u ∷ [], tt))), tt)
@@ -220,16 +220,16 @@ module _ {M : Type 1} (𝓤 : URA M) (H : Heap 𝓤) (A : Atoms 𝓤) (W : Given
             qed W (‵ (P .own ys (pvs ys)) ∷ []) ∵ nothing ! $ nothing ! $ owned ! u64 (Is u64) (uint-makes 𝓤 H A W w64) count _ (refl, count-fits) $ fjoin ! $ owns-position ! n n-fits $ fjoin ! $
             move ! (2 ∷ 0 ∷ []) $ fjoin ! $ owns-step ! (t i) u t-is $ fjoin ! $ move ! (1 ∷ 0 ∷ []) $ join ! $ frame ! $ done !
 
-    exits : (r : Members) (z : Val) → r ≡ listed count (membersIn (now s) vlan)
+    exits : (r : Members) (z : Val) → r ≡ listed count (membersIn h (now s) vlan)
         → ent 𝓤 (⋆ 𝓤 H A ((‵ (flft κ q) ⊛ ‵ ftrue) ∷ ‵ (slice-owns κ s) ∷ ‵ (R.the-row .own r (z ∷ [])) ∷ [])) (Post z)
     exits r z e =
         qed W ((‵ (flft κ q) ⊛ ‵ ftrue) ∷ ‵ (slice-owns κ s) ∷ ‵ (R.the-row .own r (z ∷ [])) ∷ []) ∵
-        suffices ! _ (ends-at 𝓤 H A read.ended stayed (read.clauses 𝓤 H A mem′ run) W (((κ, tt), (q, tt), tt, (s, (vlan, (count, tt))), vals), tt) z r (tt, (tt, (tt, tt))) (tt, (tt, (tt, tt)))) $ says ! e $
+        suffices ! _ (ends-at 𝓤 H A read.ended stayed (read.clauses 𝓤 H A mem′ run) W (((κ, tt), (q, tt), tt, (s, (h, (vlan, (count, tt)))), vals), tt) z r (tt, (tt, (tt, (tt, tt)))) (tt, (tt, (tt, (tt, tt))))) $ says ! e $
         frame ! $ nothing ! $ owned ! u64 (Is u64) (uint-makes 𝓤 H A W w64) count _ (refl, count-fits) $ fjoin ! $ owned ! u16 (Is u16) (uint-makes 𝓤 H A W w16) vlan _ (refl, vlan-fits) $ fjoin ! $
-        move ! (1 ∷ 0 ∷ []) $ fjoin ! $ frame ! $ done !
+        owns-position ! h h-fits $ fjoin ! $ move ! (1 ∷ 0 ∷ []) $ fjoin ! $ frame ! $ done !
 
     abbrev Spot : Type 0
-    Spot = State (now s) vlan
+    Spot = State h (now s) vlan
 
     abbrev Closer : Spot → Spot → Type 0
     Closer y x = length (now s) - y .at < length (now s) - x .at
@@ -244,7 +244,7 @@ module _ {M : Type 1} (𝓤 : URA M) (H : Heap 𝓤) (A : Atoms 𝓤) (W : Given
     n-fits x = lt-of-le-of-lt (x .standing .few) (lit< tt)
 
     starts : Spot
-    starts = record { at = 0; n = 0; lows = replicate 62 0; standing = standing-starts (now s) vlan }
+    starts = record { at = 0; n = 0; lows = replicate 62 0; standing = standing-starts h (now s) vlan }
 
     -- the numbers and their count after a TLV, and the spot there
     abbrev lows-after : Spot → List ℕ
@@ -254,18 +254,18 @@ module _ {M : Type 1} (𝓤 : URA M) (H : Heap 𝓤) (A : Atoms 𝓤) (W : Given
     n-after x = counted (now s) vlan (x .lows) (x .n) (t (x .at))
 
     abbrev next-spot : (x : Spot) → Holds (not (stops (t (x .at)) || ltb 62 (x .n))) → Spot
-    next-spot x goes = record { at = after (x .at) (t (x .at)); n = n-after x; lows = lows-after x; standing = standing-on (now s) vlan (x .lows) (x .n) (x .at) (x .standing) goes }
+    next-spot x goes = record { at = after (x .at) (t (x .at)); n = n-after x; lows = lows-after x; standing = standing-on h (now s) vlan (x .lows) (x .n) (x .at) (x .standing) goes }
 
-    module _ (𝓣 : Tables 𝓤 H) (known : Known 𝓣) (wt : HasType slice v) (l₀ l₁ l₂ l₃ l₄ l₅ l₆ l₇ l₈ l₉ l₁₀ l₁₁ l₁₂ : ℕ) where
+    module _ (𝓣 : Tables 𝓤 H) (known : Known 𝓣) (wt : HasType slice v) (l₀ l₁ l₂ l₃ l₄ l₅ l₆ l₇ l₈ l₉ l₁₀ l₁₁ l₁₂ l₁₃ : ℕ) where
       abbrev En : Env 𝓤 H
-      En = (R′.mir, l₀) ∷ (slice, l₁) ∷ (tyInt w16, l₂) ∷ (tyInt w64, l₃) ∷ (T′.mir erased, l₄) ∷ (array, l₅) ∷ (tyInt w64, l₆) ∷ (S′.mir, l₇) ∷ (T′.mir erased, l₈) ∷ (tyBool, l₉) ∷ (array, l₁₀) ∷ (tyRef erased mut array, l₁₁) ∷ (T′.mir erased, l₁₂) ∷ []
+      En = (R′.mir, l₀) ∷ (slice, l₁) ∷ (tyInt w64, l₂) ∷ (tyInt w16, l₃) ∷ (tyInt w64, l₄) ∷ (T′.mir erased, l₅) ∷ (array, l₆) ∷ (tyInt w64, l₇) ∷ (S′.mir, l₈) ∷ (T′.mir erased, l₉) ∷ (tyBool, l₁₀) ∷ (array, l₁₁) ∷ (tyRef erased mut array, l₁₂) ∷ (T′.mir erased, l₁₃) ∷ []
 
       abbrev At : Spot → List (Item 𝓤)
-      At x = ‵ (froom (T′.mir erased) l₁₂ 0) ∷ ‵ (fdies (T′.mir erased) l₁₂) ∷ ‵ (froom (tyRef erased mut array) l₁₁ 0) ∷ ‵ (fdies (tyRef erased mut array) l₁₁) ∷ ‵ (froom array l₁₀ 0) ∷ ‵ (fdies array l₁₀)
-          ∷ ‵ (froom tyBool l₉ 0) ∷ ‵ (fdies tyBool l₉) ∷ ‵ (froom (T′.mir erased) l₈ 0) ∷ ‵ (fdies (T′.mir erased) l₈) ∷ ‵ (froom S′.mir l₇ 0) ∷ ‵ (fdies S′.mir l₇)
-          ∷ ‵ (fat fullShare (tyInt w64) l₆ 0 (vint w64 (x .n))) ∷ ‵ (fdies (tyInt w64) l₆) ∷ ‵ (partAt P fullShare (x .lows) l₅ 0) ∷ ‵ (fdies array l₅)
-          ∷ ‵ (fat fullShare (T′.mir erased) l₄ 0 (T′.lowered (d (x .at)))) ∷ ‵ (fdies (T′.mir erased) l₄) ∷ ‵ (fat fullShare (tyInt w64) l₃ 0 (vint w64 count)) ∷ ‵ (fdies (tyInt w64) l₃)
-          ∷ ‵ (fat fullShare (tyInt w16) l₂ 0 (vint w16 vlan)) ∷ ‵ (fdies (tyInt w16) l₂) ∷ ‵ (fat fullShare slice l₁ 0 v) ∷ ‵ (fdies slice l₁) ∷ ‵ (froom R′.mir l₀ 0) ∷ ‵ (fdies R′.mir l₀)
+      At x = ‵ (froom (T′.mir erased) l₁₃ 0) ∷ ‵ (fdies (T′.mir erased) l₁₃) ∷ ‵ (froom (tyRef erased mut array) l₁₂ 0) ∷ ‵ (fdies (tyRef erased mut array) l₁₂) ∷ ‵ (froom array l₁₁ 0) ∷ ‵ (fdies array l₁₁)
+          ∷ ‵ (froom tyBool l₁₀ 0) ∷ ‵ (fdies tyBool l₁₀) ∷ ‵ (froom (T′.mir erased) l₉ 0) ∷ ‵ (fdies (T′.mir erased) l₉) ∷ ‵ (froom S′.mir l₈ 0) ∷ ‵ (fdies S′.mir l₈)
+          ∷ ‵ (fat fullShare (tyInt w64) l₇ 0 (vint w64 (x .n))) ∷ ‵ (fdies (tyInt w64) l₇) ∷ ‵ (partAt P fullShare (x .lows) l₆ 0) ∷ ‵ (fdies array l₆)
+          ∷ ‵ (fat fullShare (T′.mir erased) l₅ 0 (T′.lowered (d (x .at)))) ∷ ‵ (fdies (T′.mir erased) l₅) ∷ ‵ (fat fullShare (tyInt w64) l₄ 0 (vint w64 count)) ∷ ‵ (fdies (tyInt w64) l₄)
+          ∷ ‵ (fat fullShare (tyInt w16) l₃ 0 (vint w16 vlan)) ∷ ‵ (fdies (tyInt w16) l₃) ∷ ‵ (fat fullShare (tyInt w64) l₂ 0 (vint w64 h)) ∷ ‵ (fdies (tyInt w64) l₂) ∷ ‵ (fat fullShare slice l₁ 0 v) ∷ ‵ (fdies slice l₁) ∷ ‵ (froom R′.mir l₀ 0) ∷ ‵ (fdies R′.mir l₀)
           ∷ (‵ (flft κ q) ⊛ ‵ ftrue) ∷ ‵ (slice-owns κ s) ∷ ‵ (held κ (d (x .at)) (T′.lowered (d (x .at)))) ∷ []
 
       -- a turn ends in the invariant nearer to the end, or returns
@@ -277,97 +277,97 @@ module _ {M : Type 1} (𝓤 : URA M) (H : Heap 𝓤) (A : Atoms 𝓤) (W : Given
       turns x =
           -- `next`
           assigns ! (of-opd ! (load ! (from ! (stop !)) (look ! 16 refl))) (from ! (stop !)) (init ! 8 refl (tt, (wt .1, (record { fits = fits x }, tt)))) $
-          move ! (28 ∷ []) $ use1 W (‵ (held κ (d (x .at)) (T′.lowered (d (x .at)))) ⊛ ‵ (held κ (d (x .at)) (T′.lowered (d (x .at))))) (twice 𝓤 H A W κ (d (x .at)) (T′.lowered (d (x .at)))) $ split ! $
-          move ! (28 ∷ 0 ∷ []) $ use2 W (raw (Next .pre (to-next (x .at)))) (lends 𝓤 H A W κ q (d (x .at)) (T′.lowered (d (x .at)))) $
-          calls-at ! (fmOf 𝓤 H (W .laws) 𝓣) Next (known .known-next) (to-next (x .at)) (and-then ! (load ! (from ! (stop !)) (look ! 10 refl)) (no-more !)) (λ u.
-          answers ! tt next.ended (κ, tt) (q, tt) (d (x .at), tt) u (λ y. y ≡ t (x .at)) (λ y e. use1 W (‵ (flft κ q) ⊛ ‵ ftrue) (id⊢ 𝓤 _) $ rewrite ! 1 (λ (y : Step). ‵ (S.the-row .own y (u ∷ []))) e refl $
+          move ! (30 ∷ []) $ use1 W (‵ (held κ (d (x .at)) (T′.lowered (d (x .at)))) ⊛ ‵ (held κ (d (x .at)) (T′.lowered (d (x .at))))) (twice 𝓤 H A W κ (d (x .at)) (T′.lowered (d (x .at)))) $ split ! $
+          move ! (30 ∷ 0 ∷ []) $ use2 W (raw (Next .pre (to-next (x .at)))) (lends 𝓤 H A W κ q (d (x .at)) (T′.lowered (d (x .at))) h h-fits) $
+          calls-at ! (fmOf 𝓤 H (W .laws) 𝓣) Next (known .known-next) (to-next (x .at)) (and-then ! (load ! (from ! (stop !)) (look ! 10 refl)) (and-then ! (load ! (from ! (stop !)) (look ! 24 refl)) (no-more !))) (λ u.
+          answers ! tt next.ended (κ, tt) (q, tt) (d (x .at), (h, tt)) u (λ y. y ≡ t (x .at)) (λ y e. use1 W (‵ (flft κ q) ⊛ ‵ ftrue) (id⊢ 𝓤 _) $ rewrite ! 1 (λ (y : Step). ‵ (S.the-row .own y (u ∷ []))) e refl $
           move ! (1 ∷ []) $ facts ! S.the-row (Is S.the-row) (shows 𝓤 H A S.the-row) (t (x .at)) (u ∷ []) (λ t-is. land ! (from ! (stop !)) (init ! 12 refl (step-typed 𝓤 H A W κ (t (x .at)) u t-is)) $
-          -- `halts`: [the token; what the reader owns; _12; …; _0; …; what s owns]
+          -- `halts`: [the token; what the reader owns; _13; …; _0; …; what s owns]
           use0 W (raw (Halts .pre (to-halts (x .at) u (x .n)))) (asked-halts (x .at) u t-is (x .n) (n-fits x)) $
           calls-at ! (fmOf 𝓤 H (W .laws) 𝓣) Halts (known .known-halts) (to-halts (x .at) u (x .n)) (and-then ! (load ! (from ! (stop !)) (look ! 13 refl)) (and-then ! (load ! (from ! (stop !)) (look ! 15 refl)) (no-more !))) (λ b.
           answers ! tt halts.ended tt tt (t (x .at), (x .n, tt)) b (λ y. y ≡ (stops (t (x .at)) || ltb 62 (x .n))) (λ y e. drop ! $ facts ! bool (Is bool) (shows 𝓤 H A bool) y (b ∷ []) (λ y-is.
-          land ! (from ! (stop !)) (init ! 8 refl (bool-lawful 𝓤 H A W .typed y _ y-is .0)) $ rewrite ! 8 (λ (z : Val). ‵ (fat fullShare tyBool l₉ 0 z)) (ap only y-is ∙ ap vbool e) refl $
+          land ! (from ! (stop !)) (init ! 8 refl (bool-lawful 𝓤 H A W .typed y _ y-is .0)) $ rewrite ! 8 (λ (z : Val). ‵ (fat fullShare tyBool l₁₀ 0 z)) (ap only y-is ∙ ap vbool e) refl $
           unless ! (load ! (from ! (stop !)) (look ! 8 refl))
           (λ halted.
-          -- the numbers are read out: [their cell; what they own; the token; what the reader owns; _12; …]
-          move ! (16 ∷ []) $ fpick ! (λ vs. fsplit ! $ spelt ! P (Is P) (shows 𝓤 H A P) pvs (array-tells u16 (uint-vals w16) (uint-tells w16) 62) fullShare (x .lows) vs l₅ 0 $
+          -- the numbers are read out: [their cell; what they own; the token; what the reader owns; _13; …]
+          move ! (16 ∷ []) $ fpick ! (λ vs. fsplit ! $ spelt ! P (Is P) (shows 𝓤 H A P) pvs (array-tells u16 (uint-vals w16) (uint-tells w16) 62) fullShare (x .lows) vs l₆ 0 $
           move ! (1 ∷ []) $ peeks ! P (Is P) (shows 𝓤 H A P) (x .lows) (pvs (x .lows)) (λ p-is. move ! (1 ∷ 0 ∷ []) $
           assigns ! (of-opd ! (load ! (from ! (stop !)) (look ! 0 refl))) (from ! (stop !)) (init ! 8 refl (array-lawful 𝓤 H A W u16 (uint-lawful 𝓤 H A W w16) 62 .typed (x .lows) _ p-is .0)) $
           move ! (1 ∷ []) $ use1 W (raw (Ended .pre (to-ended (x .at) u (x .n) (x .lows)))) (asked-ended (x .at) u t-is (x .n) (n-fits x) (x .lows)) $
           calls-at ! (fmOf 𝓤 H (W .laws) 𝓣) Ended (known .known-ended) (to-ended (x .at) u (x .n) (x .lows))
           (and-then ! (load ! (from ! (stop !)) (look ! 14 refl)) (and-then ! (load ! (from ! (stop !)) (look ! 8 refl)) (and-then ! (load ! (from ! (stop !)) (look ! 16 refl)) (and-then ! (load ! (from ! (stop !)) (look ! 21 refl)) (no-more !))))) (λ z.
           answers ! tt end.ended tt tt (t (x .at), (x .lows, (x .n, (count, tt)))) z (λ r. r ≡ endedAt (t (x .at)) (x .lows) (x .n) count) (λ r e. drop ! $ peeks ! R.the-row (Is R.the-row) (shows 𝓤 H A R.the-row) r (z ∷ []) (λ r-is.
-          land ! (from ! (stop !)) (init ! 27 refl (LL.lawful R.the-type R′.the-laws 𝓤 H A W .typed r _ r-is .0)) $
-          returns-within ! Post refl (look ! 27 refl) $ forget ! 1 refl $ forget ! 8 refl $ forget ! 10 refl $ forget ! 12 refl $ forget ! 14 refl $ forget ! 16 refl $ forget ! 19 refl $ forget ! 21 refl $ forget ! 23 refl $ forget ! 25 refl $ forget ! 27 refl $
-          move ! (27 ∷ 28 ∷ []) $ free1 ! $ move ! (25 ∷ 26 ∷ []) $ free1 ! $ move ! (23 ∷ 24 ∷ []) $ free1 ! $ move ! (21 ∷ 22 ∷ []) $ free1 ! $ move ! (19 ∷ 20 ∷ []) $ free1 ! $ move ! (1 ∷ 18 ∷ []) $ free1 ! $
+          land ! (from ! (stop !)) (init ! 29 refl (LL.lawful R.the-type R′.the-laws 𝓤 H A W .typed r _ r-is .0)) $
+          returns-within ! Post refl (look ! 29 refl) $ forget ! 1 refl $ forget ! 8 refl $ forget ! 10 refl $ forget ! 12 refl $ forget ! 14 refl $ forget ! 16 refl $ forget ! 19 refl $ forget ! 21 refl $ forget ! 23 refl $ forget ! 25 refl $ forget ! 27 refl $ forget ! 29 refl $
+          move ! (29 ∷ 30 ∷ []) $ free1 ! $ move ! (27 ∷ 28 ∷ []) $ free1 ! $ move ! (25 ∷ 26 ∷ []) $ free1 ! $ move ! (23 ∷ 24 ∷ []) $ free1 ! $ move ! (21 ∷ 22 ∷ []) $ free1 ! $ move ! (19 ∷ 20 ∷ []) $ free1 ! $ move ! (1 ∷ 18 ∷ []) $ free1 ! $
           move ! (15 ∷ 16 ∷ []) $ free1 ! $ move ! (13 ∷ 14 ∷ []) $ free1 ! $ move ! (11 ∷ 12 ∷ []) $ free1 ! $ move ! (9 ∷ 10 ∷ []) $ free1 ! $ move ! (7 ∷ 8 ∷ []) $ free1 ! $ move ! (5 ∷ 6 ∷ []) $ free1 ! $ move ! (3 ∷ 4 ∷ []) $ free1 ! $
-          free0 ! $ keep ! (1 ∷ 3 ∷ 0 ∷ []) $ by ! (exits r z (e ∙ standing-ends (now s) vlan (x .lows) (x .n) (x .at) (x .standing) count halted))))))))
+          free0 ! $ keep ! (1 ∷ 3 ∷ 0 ∷ []) $ by ! (exits r z (e ∙ standing-ends h (now s) vlan (x .lows) (x .n) (x .at) (x .standing) count halted))))))))
           (λ goes.
           -- the numbers are lent for a new lifetime
           assigns ! (addr ! (from ! (stop !))) (from ! (stop !)) (init ! 4 refl (tt, tt)) $
           move ! (16 ∷ []) $ lft-new ! tt (λ α. move ! (1 ∷ []) $
-          use1 W (later (some (λ (γ : GName). ‵ (MutRef (named 1) (α ∷ []) P .own (lent l₅ γ (x .lows)) (vptr l₅ 0 ∷ [])) ⊛ ‵ (flent (α ∷ []) (Body (mem P) l₅ 0 γ))))) (lends-ref 𝓤 H A W P (named 1) (α ∷ []) (x .lows) l₅ 0) $
+          use1 W (later (some (λ (γ : GName). ‵ (MutRef (named 1) (α ∷ []) P .own (lent l₆ γ (x .lows)) (vptr l₆ 0 ∷ [])) ⊛ ‵ (flent (α ∷ []) (Body (mem P) l₆ 0 γ))))) (lends-ref 𝓤 H A W P (named 1) (α ∷ []) (x .lows) l₆ 0) $
           await ! tt $ pick ! (λ γ. split ! $
-          -- `add`: [what s owns, twice; the reference; the lender's part; its lifetime; the token; what the reader owns; _12; …]
-          move ! (30 ∷ []) $ use1 W (‵ (slice-owns κ s) ⊛ ‵ (slice-owns κ s)) (shr-slice-copy 𝓤 H A W (named 0) κ u8 .twice s (v ∷ [])) $ split ! $
-          move ! (5 ∷ 4 ∷ 0 ∷ 2 ∷ []) $ join ! $ use3 W (raw (Add .pre (to-add l₅ α γ (x .at) u (x .n) (x .lows)))) (asked-add (x .at) u t-is (x .n) (n-fits x) l₅ α γ (x .lows)) $
-          calls-at ! (fmOf 𝓤 H (W .laws) 𝓣) Add (known .known-add) (to-add l₅ α γ (x .at) u (x .n) (x .lows))
-          (and-then ! (load ! (from ! (stop !)) (look ! 25 refl)) (and-then ! (load ! (from ! (stop !)) (look ! 23 refl)) (and-then ! (load ! (from ! (stop !)) (look ! 6 refl)) (and-then ! (load ! (from ! (stop !)) (look ! 16 refl)) (and-then ! (load ! (from ! (stop !)) (look ! 14 refl)) (no-more !)))))) (λ w.
-          use1 W (later (some (λ (r : ℕ). ((‵ (flft κ q) ⊛ (‵ (flft (α ∷ []) fullShare) ⊛ ‵ ftrue)) ⊛ ‵ (usize .own r (w ∷ []))) ⊛ raw (exitsOf 𝓤 H A add.signature (add.ended .kept) (κ, (α ∷ [], tt)) (s, (vlan, (lent l₅ γ (x .lows), (x .n, (t (x .at), tt))))) (λ ws. fact 𝓤 ((r ≡ n-after x) × (now (ws .1 .1 .0) ≡ lows-after x))))))) (id⊢ 𝓤 _) $
+          -- `add`: [what s owns, twice; the reference; the lender's part; its lifetime; the token; what the reader owns; _13; …]
+          move ! (32 ∷ []) $ use1 W (‵ (slice-owns κ s) ⊛ ‵ (slice-owns κ s)) (shr-slice-copy 𝓤 H A W (named 0) κ u8 .twice s (v ∷ [])) $ split ! $
+          move ! (5 ∷ 4 ∷ 0 ∷ 2 ∷ []) $ join ! $ use3 W (raw (Add .pre (to-add l₆ α γ (x .at) u (x .n) (x .lows)))) (asked-add (x .at) u t-is (x .n) (n-fits x) l₆ α γ (x .lows)) $
+          calls-at ! (fmOf 𝓤 H (W .laws) 𝓣) Add (known .known-add) (to-add l₆ α γ (x .at) u (x .n) (x .lows))
+          (and-then ! (load ! (from ! (stop !)) (look ! 27 refl)) (and-then ! (load ! (from ! (stop !)) (look ! 23 refl)) (and-then ! (load ! (from ! (stop !)) (look ! 6 refl)) (and-then ! (load ! (from ! (stop !)) (look ! 16 refl)) (and-then ! (load ! (from ! (stop !)) (look ! 14 refl)) (no-more !)))))) (λ w.
+          use1 W (later (some (λ (r : ℕ). ((‵ (flft κ q) ⊛ (‵ (flft (α ∷ []) fullShare) ⊛ ‵ ftrue)) ⊛ ‵ (usize .own r (w ∷ []))) ⊛ raw (exitsOf 𝓤 H A add.signature (add.ended .kept) (κ, (α ∷ [], tt)) (s, (vlan, (lent l₆ γ (x .lows), (x .n, (t (x .at), tt))))) (λ ws. fact 𝓤 ((r ≡ n-after x) × (now (ws .1 .1 .0) ≡ lows-after x))))))) (id⊢ 𝓤 _) $
           await ! tt $ pick ! (λ r. split ! $ move ! (1 ∷ []) $
-          use1 W (some (λ (ws : Unit {0} × (Unit {0} × (List ℕ × (Unit {0} × (Unit {0} × Unit {0}))))). ‵ (lasts add.ended (κ, (α ∷ [], tt)) (s, (vlan, (lent l₅ γ (x .lows), (x .n, (t (x .at), tt))))) ws) ⊛ raw (fact 𝓤 ((r ≡ n-after x) × (ws .1 .1 .0 ≡ lows-after x))))) (id⊢ 𝓤 _) $ pick ! (λ ws. split ! $
+          use1 W (some (λ (ws : Unit {0} × (Unit {0} × (List ℕ × (Unit {0} × (Unit {0} × Unit {0}))))). ‵ (lasts add.ended (κ, (α ∷ [], tt)) (s, (vlan, (lent l₆ γ (x .lows), (x .n, (t (x .at), tt))))) ws) ⊛ raw (fact 𝓤 ((r ≡ n-after x) × (ws .1 .1 .0 ≡ lows-after x))))) (id⊢ 𝓤 _) $ pick ! (λ ws. split ! $
           move ! (1 ∷ []) $ heard ! ((r ≡ n-after x) × (ws .1 .1 .0 ≡ lows-after x)) (λ e. fsplit ! $ drop ! $ fsplit ! $ drop ! $ fsplit ! $ move ! (1 ∷ []) $ drop ! $ move ! (1 ∷ []) $ split ! $
           move ! (1 ∷ []) $ facts ! usize (Is usize) (shows 𝓤 H A usize) r (w ∷ []) (λ w-is. land ! (from ! (stop !)) (store ! 17 refl (uint-lawful 𝓤 H A W w64 .typed r _ w-is .0)) $
-          rewrite ! 17 (λ (z : Val). ‵ (fat fullShare (tyInt w64) l₆ 0 z)) (ap only (w-is .0) ∙ ap (vint w64) (e .0)) refl $
+          rewrite ! 17 (λ (z : Val). ‵ (fat fullShare (tyInt w64) l₇ 0 z)) (ap only (w-is .0) ∙ ap (vint w64) (e .0)) refl $
           -- the lifetime is ended, and the numbers come back at what `add` made of them
-          split ! $ move ! (1 ∷ []) $ split ! $ lft-end ! tt $ move ! (0 ∷ 5 ∷ 3 ∷ []) $ use3 W (later (‵ (partAt P fullShare (ws .1 .1 .0) l₅ 0))) (ref-back 𝓤 H A W P (α ∷ []) γ (ws .1 .1 .0) l₅ 0) $ await ! tt $
-          rewrite ! 0 (λ (ys : List ℕ). ‵ (partAt P fullShare ys l₅ 0)) (e .1) refl $ move ! (2 ∷ 1 ∷ []) $ join ! $ move ! (0 ∷ 3 ∷ 1 ∷ []) $
-          -- `skip`: [the token; what the reader owns; the numbers; what s owns; _12; …]
+          split ! $ move ! (1 ∷ []) $ split ! $ lft-end ! tt $ move ! (0 ∷ 5 ∷ 3 ∷ []) $ use3 W (later (‵ (partAt P fullShare (ws .1 .1 .0) l₆ 0))) (ref-back 𝓤 H A W P (α ∷ []) γ (ws .1 .1 .0) l₆ 0) $ await ! tt $
+          rewrite ! 0 (λ (ys : List ℕ). ‵ (partAt P fullShare ys l₆ 0)) (e .1) refl $ move ! (2 ∷ 1 ∷ []) $ join ! $ move ! (0 ∷ 3 ∷ 1 ∷ []) $
+          -- `skip`: [the token; what the reader owns; the numbers; what s owns; _13; …]
           assigns ! (of-opd ! (load ! (from ! (stop !)) (look ! 19 refl))) (from ! (stop !)) (init ! 4 refl (tt, (wt .1, (record { fits = fits x }, tt)))) $
-          use2 W (raw (Skip .pre (to-skip (x .at) u))) (asked-skip (x .at) u t-is (after-fits (2 ^ 64) (now s) (x .at) (fits x) short)) $
+          use2 W (raw (Skip .pre (to-skip (x .at) u))) (asked-skip (x .at) u t-is (after-fits h (2 ^ 64) (now s) (x .at) (fits x) short)) $
           calls-at-last ! (fmOf 𝓤 H (W .laws) 𝓣) Skip (known .known-skip) (to-skip (x .at) u) (and-then ! (load ! (from ! (stop !)) (look ! 3 refl)) (and-then ! (load ! (from ! (stop !)) (look ! 13 refl)) (no-more !))) (λ w′.
-          answers ! tt skip.ended (κ, tt) (q, tt) (d (x .at), (t (x .at), tt)) w′ (λ h. (h .payload ≡ s) × (h .at ≡ after (x .at) (t (x .at)))) (λ h e′. use1 W (‵ (flft κ q) ⊛ ‵ ftrue) (id⊢ 𝓤 _) $
-          rewrite ! 1 (λ (h : Reader). ‵ (held κ h w′)) (λ j. record { payload = e′ .0 j; at = e′ .1 j }) refl $
+          answers ! tt skip.ended (κ, tt) (q, tt) (d (x .at), (t (x .at), tt)) w′ (λ r. (r .payload ≡ s) × (r .at ≡ after (x .at) (t (x .at)))) (λ r e′. use1 W (‵ (flft κ q) ⊛ ‵ ftrue) (id⊢ 𝓤 _) $
+          rewrite ! 1 (λ (r : Reader). ‵ (held κ r w′)) (λ j. record { payload = e′ .0 j; at = e′ .1 j }) refl $
           move ! (1 ∷ []) $ peeks ! (B (κ, tt)) (Is (B (κ, tt))) (shows 𝓤 H A (B (κ, tt))) (d (after (x .at) (t (x .at)))) (w′ ∷ []) (λ is.
           rewrite ! 0 (λ (z : Val). ‵ (held κ (d (after (x .at) (t (x .at)))) z)) (lowers κ (d (after (x .at) (t (x .at)))) w′ is) refl $
-          land-last ! (from ! (stop !)) (store ! 19 refl (typed 𝓤 H A W κ erased (d (after (x .at) (t (x .at)))) w′ is)) $ rewrite ! 19 (λ (z : Val). ‵ (fat fullShare (T′.mir erased) l₄ 0 z)) (lowers κ (d (after (x .at) (t (x .at)))) w′ is) refl $
+          land-last ! (from ! (stop !)) (store ! 19 refl (typed 𝓤 H A W κ erased (d (after (x .at) (t (x .at)))) w′ is)) $ rewrite ! 19 (λ (z : Val). ‵ (fat fullShare (T′.mir erased) l₅ 0 z)) (lowers κ (d (after (x .at) (t (x .at)))) w′ is) refl $
           forget ! 4 refl $ forget ! 6 refl $ forget ! 10 refl $ forget ! 12 refl $ forget ! 14 refl $
-          move ! (4 ∷ 5 ∷ 6 ∷ 7 ∷ 8 ∷ 9 ∷ 10 ∷ 11 ∷ 12 ∷ 13 ∷ 14 ∷ 15 ∷ 16 ∷ 17 ∷ 2 ∷ 18 ∷ 19 ∷ 20 ∷ 21 ∷ 22 ∷ 23 ∷ 24 ∷ 25 ∷ 26 ∷ 27 ∷ 28 ∷ 1 ∷ 3 ∷ 0 ∷ []) $
-          again ! Closer At x (next-spot x goes) (standing-less (now s) vlan (x .lows) (x .n) (x .at) (x .standing) goes))))))))))))))))))
+          move ! (4 ∷ 5 ∷ 6 ∷ 7 ∷ 8 ∷ 9 ∷ 10 ∷ 11 ∷ 12 ∷ 13 ∷ 14 ∷ 15 ∷ 16 ∷ 17 ∷ 2 ∷ 18 ∷ 19 ∷ 20 ∷ 21 ∷ 22 ∷ 23 ∷ 24 ∷ 25 ∷ 26 ∷ 27 ∷ 28 ∷ 29 ∷ 30 ∷ 1 ∷ 3 ∷ 0 ∷ []) $
+          again ! Closer At x (next-spot x goes) (standing-less h (now s) vlan (x .lows) (x .n) (x .at) (x .standing) goes))))))))))))))))))
 
-    walks : (𝓣 : Tables 𝓤 H) → Known 𝓣 → HasType slice v → ent 𝓤 entry (WpFn 𝓤 H (𝓣 .C) (𝓣 .Λ) code.function (v ∷ vint w16 vlan ∷ vint w64 count ∷ []) Post)
+    walks : (𝓣 : Tables 𝓤 H) → Known 𝓣 → HasType slice v → ent 𝓤 entry (WpFn 𝓤 H (𝓣 .C) (𝓣 .Λ) code.function (v ∷ vint w64 h ∷ vint w16 vlan ∷ vint w64 count ∷ []) Post)
     unfolding starts partOf
     walks 𝓣 known wt =
-        qed W ((‵ (flft κ q) ⊛ ‵ ftrue) ∷ ‵ (owns (ShrSlice (named 0) κ u8 ∷ u16 ∷ u64 ∷ []) (s, (vlan, (count, tt))) vals) ∷ []) ∵ enter ! (𝓣 .C) (𝓣 .Λ) code.function (v ∷ vint w16 vlan ∷ vint w64 count ∷ []) _ $
-        alloc1 ! (λ l₀. alloc1 ! (λ l₁. alloc1 ! (λ l₂. alloc1 ! (λ l₃. alloc1 ! (λ l₄. alloc1 ! (λ l₅. alloc1 ! (λ l₆. alloc1 ! (λ l₇. alloc1 ! (λ l₈. alloc1 ! (λ l₉. alloc1 ! (λ l₁₀. alloc1 ! (λ l₁₁. alloc1 ! (λ l₁₂. alloc0 ! $ params1 ! $
-        pass1 ! (init ! 22 refl wt) $ pass1 ! (init ! 20 refl (tt, record { fits = vlan-fits })) $ pass1 ! (init ! 18 refl (tt, record { fits = count-fits })) $ pass0 ! $
+        qed W ((‵ (flft κ q) ⊛ ‵ ftrue) ∷ ‵ (owns (ShrSlice (named 0) κ u8 ∷ usize ∷ u16 ∷ u64 ∷ []) (s, (h, (vlan, (count, tt)))) vals) ∷ []) ∵ enter ! (𝓣 .C) (𝓣 .Λ) code.function (v ∷ vint w64 h ∷ vint w16 vlan ∷ vint w64 count ∷ []) _ $
+        alloc1 ! (λ l₀. alloc1 ! (λ l₁. alloc1 ! (λ l₂. alloc1 ! (λ l₃. alloc1 ! (λ l₄. alloc1 ! (λ l₅. alloc1 ! (λ l₆. alloc1 ! (λ l₇. alloc1 ! (λ l₈. alloc1 ! (λ l₉. alloc1 ! (λ l₁₀. alloc1 ! (λ l₁₁. alloc1 ! (λ l₁₂. alloc1 ! (λ l₁₃. alloc0 ! $ params1 ! $
+        pass1 ! (init ! 24 refl wt) $ pass1 ! (init ! 22 refl (tt, record { fits = h-fits })) $ pass1 ! (init ! 20 refl (tt, record { fits = vlan-fits })) $ pass1 ! (init ! 18 refl (tt, record { fits = count-fits })) $ pass0 ! $
         -- `new`
-        move ! (27 ∷ []) $ fsplit ! $ move ! (1 ∷ []) $ drop ! $ use1 W (‵ (slice-owns κ s) ⊛ ‵ (slice-owns κ s)) (shr-slice-copy 𝓤 H A W (named 0) κ u8 .twice s (v ∷ [])) $ split ! $
-        move ! (28 ∷ 0 ∷ []) $ use2 W (raw (New .pre to-new)) asked-new $
-        calls-at ! (fmOf 𝓤 H (W .laws) 𝓣) New (known .known-new) to-new (and-then ! (load ! (from ! (stop !)) (look ! 24 refl)) (and-then ! (lit ! tt) (no-more !))) (λ w.
+        move ! (29 ∷ []) $ fsplit ! $ move ! (1 ∷ []) $ drop ! $ use1 W (‵ (slice-owns κ s) ⊛ ‵ (slice-owns κ s)) (shr-slice-copy 𝓤 H A W (named 0) κ u8 .twice s (v ∷ [])) $ split ! $
+        move ! (30 ∷ 0 ∷ []) $ use2 W (raw (New .pre to-new)) asked-new $
+        calls-at ! (fmOf 𝓤 H (W .laws) 𝓣) New (known .known-new) to-new (and-then ! (load ! (from ! (stop !)) (look ! 26 refl)) (and-then ! (lit ! tt) (no-more !))) (λ w.
         answers ! tt new.ended (κ, tt) (q, tt) (s, (0, tt)) w (λ r. (r .payload ≡ s) × (r .at ≡ 0)) (λ r e. use1 W (‵ (flft κ q) ⊛ ‵ ftrue) (id⊢ 𝓤 _) $
-        rewrite ! 1 (λ (h : Reader). ‵ (held κ h w)) (λ j. record { payload = e .0 j; at = e .1 j }) refl $
+        rewrite ! 1 (λ (r : Reader). ‵ (held κ r w)) (λ j. record { payload = e .0 j; at = e .1 j }) refl $
         move ! (1 ∷ []) $ peeks ! (B (κ, tt)) (Is (B (κ, tt))) (shows 𝓤 H A (B (κ, tt))) (d 0) (w ∷ []) (λ is. rewrite ! 0 (λ (z : Val). ‵ (held κ (d 0) z)) (lowers κ (d 0) w is) refl $
-        land ! (from ! (stop !)) (init ! 19 refl (typed 𝓤 H A W κ erased (d 0) w is)) $ rewrite ! 19 (λ (z : Val). ‵ (fat fullShare (T′.mir erased) l₄ 0 z)) (lowers κ (d 0) w is) refl $
+        land ! (from ! (stop !)) (init ! 19 refl (typed 𝓤 H A W κ erased (d 0) w is)) $ rewrite ! 19 (λ (z : Val). ‵ (fat fullShare (T′.mir erased) l₅ 0 z)) (lowers κ (d 0) w is) refl $
         -- the numbers, of no members
         owned ! u16 (Is u16) (uint-makes 𝓤 H A W w16) 0 _ (refl, lit< tt) $ use1 W (‵ (P .own (replicate 62 0) (zeros ∷ []))) (array-repeat 𝓤 H A W u16 (uint-copy 𝓤 H A W w16) 62 0 (vint w16 0)) $
         peeks ! P (Is P) (shows 𝓤 H A P) (replicate 62 0) (zeros ∷ []) (λ z-is.
         assigns ! (rep ! 62 (lit ! tt)) (from ! (stop !)) (init ! 18 refl (array-lawful 𝓤 H A W u16 (uint-lawful 𝓤 H A W w16) 62 .typed (replicate 62 0) _ z-is .0)) $
         assigns ! (of-opd ! (lit ! tt)) (from ! (stop !)) (init ! 16 refl (tt, record { fits = lit< tt })) $
-        move ! (18 ∷ 0 ∷ []) $ fjoin ! $ fpack ! (List Val) (λ vs. fsep (cellAt fullShare (P .mir) vs l₅ 0) (P .own (replicate 62 0) vs)) (zeros ∷ []) $
+        move ! (18 ∷ 0 ∷ []) $ fjoin ! $ fpack ! (List Val) (λ vs. fsep (cellAt fullShare (P .mir) vs l₆ 0) (P .own (replicate 62 0) vs)) (zeros ∷ []) $
         -- the invariant at the start, and the loop
-        move ! (4 ∷ 5 ∷ 6 ∷ 7 ∷ 8 ∷ 9 ∷ 10 ∷ 11 ∷ 12 ∷ 13 ∷ 14 ∷ 15 ∷ 16 ∷ 17 ∷ 0 ∷ 18 ∷ 19 ∷ 20 ∷ 21 ∷ 22 ∷ 23 ∷ 24 ∷ 25 ∷ 26 ∷ 27 ∷ 28 ∷ 2 ∷ 3 ∷ 1 ∷ []) $ first ! $ blocks ! $
-        loops ! 𝓣 Closer Closer-wf (At 𝓣 known wt l₀ l₁ l₂ l₃ l₄ l₅ l₆ l₇ l₈ l₉ l₁₀ l₁₁ l₁₂) (turns 𝓣 known wt l₀ l₁ l₂ l₃ l₄ l₅ l₆ l₇ l₈ l₉ l₁₀ l₁₁ l₁₂) starts)))))))))))))))))
+        move ! (4 ∷ 5 ∷ 6 ∷ 7 ∷ 8 ∷ 9 ∷ 10 ∷ 11 ∷ 12 ∷ 13 ∷ 14 ∷ 15 ∷ 16 ∷ 17 ∷ 0 ∷ 18 ∷ 19 ∷ 20 ∷ 21 ∷ 22 ∷ 23 ∷ 24 ∷ 25 ∷ 26 ∷ 27 ∷ 28 ∷ 29 ∷ 30 ∷ 2 ∷ 3 ∷ 1 ∷ []) $ first ! $ blocks ! $
+        loops ! 𝓣 Closer Closer-wf (At 𝓣 known wt l₀ l₁ l₂ l₃ l₄ l₅ l₆ l₇ l₈ l₉ l₁₀ l₁₁ l₁₂ l₁₃) (turns 𝓣 known wt l₀ l₁ l₂ l₃ l₄ l₅ l₆ l₇ l₈ l₉ l₁₀ l₁₁ l₁₂ l₁₃) starts))))))))))))))))))
 
   read-meets-spec : (𝓣 : Tables 𝓤 H) → Known 𝓣 → Meets 𝓤 H A read.signature (WpFn 𝓤 H (𝓣 .C) (𝓣 .Λ) code.function) (read.spec 𝓤 H A mem′ run)
   read-meets-spec 𝓣 known =
-      walk-meets 𝓤 H A read.ended stayed W (goes-none-slice 𝓤 H A W 1 (0 ∷ []) tt (plain (λ _. u8)) yes, (goes-none 𝓤 H A W 1 (λ _. u16) yes (λ κs x f. refl), (goes-none 𝓤 H A W 1 (λ _. u64) yes (λ κs x f. refl), tt)))
+      walk-meets 𝓤 H A read.ended stayed W (goes-none-slice 𝓤 H A W 1 (0 ∷ []) tt (plain (λ _. u8)) yes, (goes-none 𝓤 H A W 1 (λ _. usize) yes (λ κs x f. refl), (goes-none 𝓤 H A W 1 (λ _. u16) yes (λ κs x f. refl), (goes-none 𝓤 H A W 1 (λ _. u64) yes (λ κs x f. refl), tt))))
       (read.clauses 𝓤 H A mem′ run) (WpFn 𝓤 H (𝓣 .C) (𝓣 .Λ) code.function) (WpFn-mono 𝓤 H (W .laws) 𝓣 code.function)
-      (walked 𝓤 H A read.ended stayed (read.clauses 𝓤 H A mem′ run) (WpFn 𝓤 H (𝓣 .C) (𝓣 .Λ) code.function) (λ κs. (slice-vals, (uint-vals w16, (uint-vals w64, tt))))
-      (λ κs. (shr-slice-tells (named 0) (κs .0) u8, (uint-tells w16, (uint-tells w64, tt))))
+      (walked 𝓤 H A read.ended stayed (read.clauses 𝓤 H A mem′ run) (WpFn 𝓤 H (𝓣 .C) (𝓣 .Λ) code.function) (λ κs. (slice-vals, (uint-vals w64, (uint-vals w16, (uint-vals w64, tt)))))
+      (λ κs. (shr-slice-tells (named 0) (κs .0) u8, (uint-tells w64, (uint-tells w16, (uint-tells w64, tt)))))
       (λ κs qs bounds a g are. via 𝓤 _ (fst∗ 𝓤 _ (emp 𝓤))
       (let wt = shr-slice-lawful 𝓤 H A W (named 0) (κs .0) u8 .typed (a .0) _ (are .0) .0 in
-      walks (κs .0) (qs .0) (a .0) (a .1 .0) (a .1 .1 .0) (wt .1 .1 .0 .fits) (are .1 .0 .1) (are .1 .1 .0 .1) 𝓣 known wt)))
+      walks (κs .0) (qs .0) (a .0) (a .1 .0) (a .1 .1 .0) (a .1 .1 .1 .0) (wt .1 .1 .0 .fits) (are .1 .0 .1) (are .1 .1 .0 .1) (are .1 .1 .1 .0 .1) 𝓣 known wt)))
 
 pub read-spec : {M : Type 1} → stated.statement M
 unfolding code.routine tablesOf

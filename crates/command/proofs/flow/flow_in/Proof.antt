@@ -23,7 +23,7 @@ refused-requires c κs = search needs
 
 returns : tie.Need-returns
 unfolding flowIn need
-returns c = simp (← c .before .before .given .ensures, not-true (c .before .before .given .result) (c .before .if1 .taken)) (c .refused .ensures)
+returns c = simp (← c .before .before .before .before .pre .1, ← c .before .before .given .ensures, not-true (c .before .before .given .result) (c .before .if1 .taken)) (c .refused .ensures)
 
 value-requires : tie.Need-value-requires
 value-requires c κs = search needs
@@ -40,6 +40,7 @@ returns-2 c =
     let t = c .before .before in
     let g = t .before .before .before in
     simp (
+      ← g .before .before .pre .1,
       ← g .given .ensures,
       not-false (g .given .result) (t .before .before .if1 .left),
       ← t .before .value .ensures,
@@ -55,13 +56,14 @@ past-table : (c : tie.Else2)
     let s = now (a .s) in
     let t = v .value .result in
     flowIn (a .terms) s (choose (a .add) FlowAdd FlowMod)
-    ≡ need (fieldsRight s (flowUser t) && matchAllowed (a .terms) (value s 9) (given s 19) (matchOf s t)) Einval
-    (carried (choose (a .add) FlowAdd FlowMod (flowOf s t)) [])
+    ≡ need (fieldsRight (a .header) s (flowUser t) && matchAllowed (a .terms) (value (a .header) s 9) (given (a .header) s 19) (matchOf (a .header) s t)) Einval
+    (carried (choose (a .add) FlowAdd FlowMod (flowOf (a .header) s t)) [])
 unfolding flowIn need
 past-table c =
     let t = c .before in
     let g = t .before .before .before in
     simp (
+      ← g .before .before .pre .1,
       ← g .given .ensures,
       not-false (g .given .result) (t .before .before .if1 .left),
       ← t .before .value .ensures,
@@ -92,7 +94,7 @@ told : (c : tie.After-match-allowed)
     → let f = c .before .before .before .before in
     let v = f .before .before .before in
     let a = v .before .before .before .before .args in
-    c .match-allowed .result ≡ matchAllowed (a .terms) (value (now (a .s)) 9) (given (now (a .s)) 19) (matchOf (now (a .s)) (v .value .result))
+    c .match-allowed .result ≡ matchAllowed (a .terms) (value (a .header) (now (a .s)) 9) (given (a .header) (now (a .s)) 19) (matchOf (a .header) (now (a .s)) (v .value .result))
 unfolding flowOf
 told c =
     let f = c .before .before .before .before in

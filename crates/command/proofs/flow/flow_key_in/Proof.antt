@@ -14,7 +14,7 @@ refused-requires c κs = search needs
 
 returns : tie.Need-returns
 unfolding flowKeyIn need
-returns c = simp (← c .before .before .fields-right .ensures, not-true (c .before .before .fields-right .result) (c .before .if1 .taken)) (c .refused .ensures)
+returns c = simp (← c .before .before .before .before .pre .1, ← c .before .before .fields-right .ensures, not-true (c .before .before .fields-right .result) (c .before .if1 .taken)) (c .refused .ensures)
 
 value-requires : tie.Need-value-requires
 value-requires c κs = search needs
@@ -26,7 +26,7 @@ returns-2 : tie.Need-returns-2
 unfolding flowKeyIn need pad
 returns-2 c =
     let f = c .before .before .before in
-    simp (← f .fields-right .ensures, not-false (f .fields-right .result) (c .before .before .if1 .left), ← c .before .value .ensures)
+    simp (← f .before .before .pre .1, ← f .fields-right .ensures, not-false (f .fields-right .result) (c .before .before .if1 .left), ← c .before .value .ensures)
     (c .carried .ensures _ refl)
 
 pub flow-key-in-spec : {M : Type 1} → statement M

@@ -29,12 +29,12 @@ word-requires-3 c κs = search needs
 value-requires-2 : tie.Need-value-requires-2
 value-requires-2 c κs = search needs
 
-cast-t10 : tie.Need-cast-t10
+cast-t11 : tie.Need-cast-t11
 unfolding ruleOf ruleIn rows
-cast-t10 c =
+cast-t11 c =
     let b = c .before .before .before .before .before .before in
     let k = b .shared-slice-known .given in
-    omega (arith, value-below (now (b .before .args .s)) 9 2 (λ j. k j .fits) (lit≤ tt), c .value2 .ensures)
+    omega (arith, value-below (b .before .args .header) (now (b .before .args .s)) 9 2 (λ j. k j .fits) (lit≤ tt), c .value2 .ensures)
 
 returns : tie.Need-returns
 unfolding flowOf
@@ -59,5 +59,5 @@ flow-of-spec =
     word-requires-2
     word-requires-3
     value-requires-2
-    cast-t10
+    cast-t11
     returns)

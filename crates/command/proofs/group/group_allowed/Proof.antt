@@ -12,7 +12,7 @@ allowed-requires c κs = search needs
 
 returns : tie.Need-returns
 unfolding groupAllowed
-returns c = λ l e. simp (← c .before .before .type-of .ensures, ne-eqb _ _ (c .before .if1 .taken), ← c .allowed .ensures, ← e)
+returns c = λ l e. simp (← c .before .before .before .before .pre .1, ← c .before .before .type-of .ensures, ne-eqb _ _ (c .before .if1 .taken), ← c .allowed .ensures, ← e)
 
 value-requires : tie.Need-value-requires
 value-requires c κs = search needs
@@ -38,6 +38,7 @@ returns-2 c = λ l e.
     let l = c .before .before in
     let v = l .before .before in
     simp (
+      ← v .before .before .before .before .pre .1,
       ← v .before .before .type-of .ensures,
       eq-eqb _ _ (v .before .if1 .left),
       ← v .value .ensures,

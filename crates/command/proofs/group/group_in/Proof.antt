@@ -36,7 +36,7 @@ refused-requires c κs = search needs
 told : (c : tie.After-group-allowed)
     → let w = c .before .before .before .before in
     let a = w .before .before .args in
-    c .group-allowed .result ≡ groupAllowed (a .terms) (now (a .s)) (w .word .result) (membersOf (now (a .s)) (w .word .result))
+    c .group-allowed .result ≡ groupAllowed (a .terms) (now (a .s)) (w .word .result) (membersOf (a .header) (now (a .s)) (w .word .result))
 unfolding listed
 told c = c .group-allowed .ensures _ (ap (λ (m : Members). m .right) (c .before .before .before .members-of .ensures))
 
@@ -44,8 +44,10 @@ returns : tie.Need-returns
 unfolding groupIn need
 returns c =
     let g = c .before .before in
+    let w = g .before .before .before .before in
     simp (
-      ← g .before .before .before .before .word .ensures,
+      ← w .before .before .pre .1,
+      ← w .word .ensures,
       ← g .before .before .group-user .ensures,
       ← g .before .fields-right .ensures,
       ← told g,
@@ -57,7 +59,7 @@ group-of-requires : tie.Need-group-of-requires
 group-of-requires c κs =
     let g = c .before .before in
     let f = g .before .fields-right .result in
-    (search needs, count-fits _ _ _ _ (sym (told g) ∙ and-right f (g .group-allowed .result) (not-false (f && g .group-allowed .result) (c .before .if1 .left))))
+    (search needs, count-fits _ _ _ _ _ (g .before .before .before .before .before .before .pre .1) (sym (told g) ∙ and-right f (g .group-allowed .result) (not-false (f && g .group-allowed .result) (c .before .if1 .left))))
 
 group-command-requires : tie.Need-group-command-requires
 group-command-requires c κs = search needs
@@ -71,6 +73,7 @@ returns-2 c =
     let g = c .before .before .before .before .before in
     let m = g .before .before .before in
     simp (
+      ← m .before .before .before .pre .1,
       ← m .before .word .ensures,
       ← g .before .before .group-user .ensures,
       ← g .before .fields-right .ensures,

@@ -26,6 +26,7 @@ unfolding groupKeyIn need
 returns c =
     let a = c .before .before in
     simp (
+      ← a .before .before .before .before .pre .1,
       ← a .before .before .word .ensures,
       ← a .before .fields-right .ensures,
       ← a .allowed .ensures,
@@ -41,6 +42,7 @@ unfolding groupKeyIn need pad
 returns-2 c =
     let a = c .before .before in
     simp (
+      ← a .before .before .before .before .pre .1,
       ← a .before .before .word .ensures,
       ← a .before .fields-right .ensures,
       ← a .allowed .ensures,

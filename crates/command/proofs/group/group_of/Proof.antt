@@ -19,8 +19,8 @@ value-requires c κs = search needs
 value-requires-2 : tie.Need-value-requires-2
 value-requires-2 c κs = search needs
 
-cast-t10 : tie.Need-cast-t10
-cast-t10 c =
+cast-t11 : tie.Need-cast-t11
+cast-t11 c =
     let e = c .before .before in
     let a = e .before .before .args in
     let z : eqb (groupType (a .id)) 0 ≡ false = rw (← e .type-of .ensures) (ne-eqb _ _ (c .before .if1 .left)) in
@@ -36,4 +36,4 @@ returns-2 c = simp (← c .before .before .type-of .ensures, ne-eqb _ _ (c .befo
 
 pub group-of-spec : {M : Type 1} → statement M
 group-of-spec =
-    tie.close (tie.spec type-of-requires value-requires value-requires-2 cast-t10 returns returns-2)
+    tie.close (tie.spec type-of-requires value-requires value-requires-2 cast-t11 returns returns-2)
