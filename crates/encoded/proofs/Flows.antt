@@ -1,4 +1,4 @@
--- The round trip of a flow: each field is read back as it was written, so that an admitted entry's payload decodes to its own flow.
+-- The round trip of a flow: a device reads each field back as it was written, so that an admitted entry's payload decodes to its own flow.
 -- Assumes nothing.
 use Prim.Native.Nat.{ℕ, _+_, _*_, _/_, _%_, _≤_, _<_, _^_}
 use mathlib.Core.Bool.{Bool, true, false, not, _||_}
@@ -10,16 +10,16 @@ use lib.ListN.{length}
 use lib.Dec.{eqb}
 use borrow.Author.Tests.{eq-eqb}
 use Rattle.rules.specs.Choose.{choose}
-use Rattle.rules.specs.Limits.{fieldTypes, maxFlows}
+use Rattle.rules.specs.Limits.{fieldTypes, maxFlows, maxPayload}
 use Rattle.rules.specs.Bytes.{le, bytesOf, swap16}
 use Rattle.rules.specs.Region.{filled, fitsWidth}
+use Rattle.rules.specs.Registers.{currentTerms}
 use Rattle.rules.specs.Keyed.{insert, replace, remove}
 use Rattle.rules.specs.Fields.{rows, ruleIn, ruleOf, hasUser, given, value, everyBelow, fieldsRight, flow0, flow10, flow50, flowDel}
 use Rattle.rules.specs.Encode.{regionOf, payloadOf, numberBytes, flowHas, flowValue, flowBytes, flowFields}
 use Rattle.rules.specs.Undo.{flowPayload}
 use Rattle.rules.specs.Decode.{need, carried, matchOf, flowOf, flowUser, isTable, flowIn as flowFrom, flowKeyIn, isCommand, commandIn, decode}
 use Rattle.rules.specs.Tables.{Tables, cookieOf, addStatus, heldStatus, commandStatus, withFlows, commandEffect, decodedStatus, decodedEffect, executed, carryOut, execute}
-use Rattle.rules.specs.declared.Terms.{Terms}
 use Rattle.rules.specs.declared.Flow.{Flow}
 use Rattle.rules.specs.declared.Command.{Command}
 use Rattle.rules.specs.declared.Command.the-variants.{FlowAdd, FlowMod, FlowDel}
@@ -27,7 +27,7 @@ use Rattle.rules.specs.declared.FlowEntry.{FlowEntry}
 use Rattle.rules.proofs.Cases.{by-test, by-eq, not-both}
 use Rattle.rules.proofs.Bytes.{le-bytesOf, length-bytesOf}
 use Rattle.rules.proofs.FieldTable.{narrow}
-use Rattle.encoded.specs.Placed.{Encodable}
+use Rattle.encoded.specs.Placed.{own, Encodable}
 use Rattle.encoded.specs.Admitted.{matchIn, flowIn, hasNew, FlowAdmitted}
 use Rattle.encoded.proofs.Region.{isListed, fields-encodable, given-field, value-field, fields-right, sumFrom, length-fields, length-payload, decode-payload}
 
@@ -79,7 +79,7 @@ module _ (who : ℕ) (e : FlowEntry) where
   unfolding flowBytes
   few-flow t = few-bytes t (flowValue e t)
 
-  short-flow : (t : ℕ) → length (flowBytes e t) < 2 ^ 16
+  short-flow : (t : ℕ) → length (flowBytes e t) ≤ maxPayload
   short-flow t = omega (arith, few-flow t)
 
   wide-flow : (t : ℕ) → fitsWidth (ruleOf t .width) (length (flowBytes e t)) ≡ true
@@ -90,19 +90,19 @@ module _ (who : ℕ) (e : FlowEntry) where
   unfolding flowFields
   flow-encodable = fields-encodable who (flowHas e) (flowBytes e) short-flow
 
-  flow-given : (k : ℕ) → k < fieldTypes → given (regionOf (flowFields who e)) k ≡ isListed who (flowHas e) k
+  flow-given : (k : ℕ) → k < fieldTypes → given own (regionOf (flowFields who e)) k ≡ isListed who (flowHas e) k
   unfolding flowFields
   flow-given = given-field who (flowHas e) (flowBytes e) short-flow wide-flow
 
   flow-value : (k : ℕ) → k < fieldTypes → flowValue e k < 256 ^ (ruleOf k .width)
-      → value (regionOf (flowFields who e)) k ≡ choose (isListed who (flowHas e) k) (flowValue e k) 0
+      → value own (regionOf (flowFields who e)) k ≡ choose (isListed who (flowHas e) k) (flowValue e k) 0
   unfolding flowFields flowBytes
   flow-value k h fits =
       value-field who (flowHas e) (flowBytes e) short-flow wide-flow k h
       ∙ ap (λ (v : ℕ). choose (isListed who (flowHas e) k) v 0) (number-read k (flowValue e k) fits)
 
   flow-right : everyBelow fieldTypes (λ t. not (hasUser (ruleOf t .needs) who) || flowHas e t) ≡ true
-      → fieldsRight (regionOf (flowFields who e)) who ≡ true
+      → fieldsRight own (regionOf (flowFields who e)) who ≡ true
   unfolding flowFields
   flow-right = fields-right who (flowHas e) (flowBytes e) short-flow wide-flow
 
@@ -118,18 +118,18 @@ module _ (who : ℕ) (e : FlowEntry) where
 
 -- what is read of the fields of an entry
 record Reads (s : List ℕ) (e : FlowEntry) : Type 0 where
-  table-given : given s 1 ≡ true
-  table-read : value s 1 ≡ e .table
-  fields-read : fieldsRight s (flowUser (e .table)) ≡ true
-  flow-read : flowOf s (e .table) ≡ flowIn e
-  new-given : given s 19 ≡ hasNew e
+  table-given : given own s 1 ≡ true
+  table-read : value own s 1 ≡ e .table
+  fields-read : fieldsRight own s (flowUser (e .table)) ≡ true
+  flow-read : flowOf own s (e .table) ≡ flowIn e
+  new-given : given own s 19 ≡ hasNew e
 
-decodes : (terms : Terms) (e : FlowEntry) (s : List ℕ) (make : Flow → Command) → FlowAdmitted terms e → Reads s e
-    → flowFrom terms s make ≡ carried (make (flowIn e)) []
+decodes : (ports : ℕ) (e : FlowEntry) (s : List ℕ) (make : Flow → Command) → FlowAdmitted ports e → Reads s e
+    → flowFrom (currentTerms ports) s make ≡ carried (make (flowIn e)) []
 unfolding flowFrom need
-decodes terms e s make a r =
-    let goto : value s 9 ≡ e .«goto_tbl» = unfold flowOf flowIn in ap (λ (f : Flow). f .«goto_tbl») (r .flow-read) in
-    let match : matchOf s (e .table) ≡ matchIn e = unfold flowOf flowIn in ap (λ (f : Flow). f .matching) (r .flow-read) in
+decodes ports e s make a r =
+    let goto : value own s 9 ≡ e .«goto_tbl» = unfold flowOf flowIn in ap (λ (f : Flow). f .«goto_tbl») (r .flow-read) in
+    let match : matchOf own s (e .table) ≡ matchIn e = unfold flowOf flowIn in ap (λ (f : Flow). f .matching) (r .flow-read) in
     rw (r .table-given, r .table-read, a .is-table, r .fields-read, goto, r .new-given, match, a .allowed, r .flow-read)
 
 by-table : {G : Type 0} (t : ℕ) → isTable t ≡ true → (t ≡ 0 → G) → (t ≡ 10 → G) → (t ≡ 50 → G) → G
@@ -140,22 +140,22 @@ by-table t h zero ten fifty =
 module _ (who : ℕ) (e : FlowEntry) where
   -- a field that its user always has
   value-at : (k v : ℕ) → k < fieldTypes → isListed who (flowHas e) k ≡ true → flowValue e k ≡ v → v < 256 ^ (ruleOf k .width)
-      → value (regionOf (flowFields who e)) k ≡ v
+      → value own (regionOf (flowFields who e)) k ≡ v
   value-at k v h p q fits = flow-value who e k h (rw q fits) ∙ rw (p, q)
 
-  module _ (terms : Terms) (a : FlowAdmitted terms e) (any : hasUser 7 who ≡ true) (key : hasUser 15 who ≡ true) where
-    table-value : value (regionOf (flowFields who e)) 1 ≡ e .table
+  module _ (ports : ℕ) (a : FlowAdmitted ports e) (any : hasUser 7 who ≡ true) (key : hasUser 15 who ≡ true) where
+    table-value : value own (regionOf (flowFields who e)) 1 ≡ e .table
     unfolding isListed ruleOf ruleIn rows flowHas flowValue
     table-value = value-at 1 (e .table) (omega arith) (rw any) refl (by-table (e .table) (a .is-table) (λ z. omega arith) (λ z. omega arith) (λ z. omega arith))
 
-    flow-read : matchOf (regionOf (flowFields who e)) (e .table) ≡ matchIn e → flowOf (regionOf (flowFields who e)) (e .table) ≡ flowIn e
+    flow-read : matchOf own (regionOf (flowFields who e)) (e .table) ≡ matchIn e → flowOf own (regionOf (flowFields who e)) (e .table) ≡ flowIn e
     unfolding isListed ruleOf ruleIn rows flowHas flowValue flowOf flowIn
     flow-read m =
         rw
         (value-at 5 (e .cookie) (omega arith) (rw key) refl (a .cookie-fits), value-at 2 (e .priority) (omega arith) (rw any) refl (a .priority-fits), value-at 3 (e .hardtime) (omega arith) (rw any) refl (a .hardtime-fits), value-at 4 (e .idletime) (omega arith) (rw any) refl (a .idletime-fits), value-at 9 (e .«goto_tbl») (omega arith) (rw any) refl (a .goto-fits), m)
 
     reads : flowUser (e .table) ≡ who → everyBelow fieldTypes (λ t. not (hasUser (ruleOf t .needs) who) || flowHas e t) ≡ true
-        → matchOf (regionOf (flowFields who e)) (e .table) ≡ matchIn e → isListed who (flowHas e) 19 ≡ hasNew e
+        → matchOf own (regionOf (flowFields who e)) (e .table) ≡ matchIn e → isListed who (flowHas e) 19 ≡ hasNew e
         → Reads (regionOf (flowFields who e)) e
     unfolding isListed ruleOf ruleIn rows flowHas
     reads user every match new =
@@ -169,37 +169,37 @@ module _ (who : ℕ) (e : FlowEntry) where
 
 -- each table with its own fields
 module _ (s : List ℕ) (e : FlowEntry) where
-  match-0 : e .table ≡ 0 → value s 6 ≡ e .«in_pport» → value s 7 ≡ e .«in_pport_mask» → matchOf s (e .table) ≡ matchIn e
+  match-0 : e .table ≡ 0 → value own s 6 ≡ e .«in_pport» → value own s 7 ≡ e .«in_pport_mask» → matchOf own s (e .table) ≡ matchIn e
   unfolding matchOf matchIn
   match-0 z p m = rw z (rw (p, m))
 
-  match-10 : e .table ≡ 10 → value s 6 ≡ e .«in_pport» → swap16 (value s 14) ≡ e .«vlan_id» → swap16 (value s 19) ≡ e .«new_vlan_id»
-      → matchOf s (e .table) ≡ matchIn e
+  match-10 : e .table ≡ 10 → value own s 6 ≡ e .«in_pport» → swap16 (value own s 14) ≡ e .«vlan_id» → swap16 (value own s 19) ≡ e .«new_vlan_id»
+      → matchOf own s (e .table) ≡ matchIn e
   unfolding matchOf matchIn
   match-10 z p v n = rw z (rw (p, v, n))
 
-  match-50 : e .table ≡ 50 → swap16 (value s 14) ≡ e .«vlan_id» → given s 24 ≡ e .«has_mac» → value s 24 ≡ e .«dst_mac»
-      → given s 10 ≡ e .«has_group» → value s 10 ≡ e .«group_id» → matchOf s (e .table) ≡ matchIn e
+  match-50 : e .table ≡ 50 → swap16 (value own s 14) ≡ e .«vlan_id» → given own s 24 ≡ e .«has_mac» → value own s 24 ≡ e .«dst_mac»
+      → given own s 10 ≡ e .«has_group» → value own s 10 ≡ e .«group_id» → matchOf own s (e .table) ≡ matchIn e
   unfolding matchOf matchIn
   match-50 z v hm m hg g = rw z (rw (v, hm, m, hg, g))
 
-module _ (terms : Terms) (e : FlowEntry) (a : FlowAdmitted terms e) where
+module _ (ports : ℕ) (e : FlowEntry) (a : FlowAdmitted ports e) where
   -- VLAN_ID of one who has it
-  vlan-read : (who : ℕ) → hasUser 6 who ≡ true → swap16 (value (regionOf (flowFields who e)) 14) ≡ e .«vlan_id»
+  vlan-read : (who : ℕ) → hasUser 6 who ≡ true → swap16 (value own (regionOf (flowFields who e)) 14) ≡ e .«vlan_id»
   unfolding isListed ruleOf ruleIn rows flowHas flowValue
   vlan-read who uses =
       ap swap16 (value-at who e 14 (swap16 (e .«vlan_id»)) (omega arith) (rw uses) refl (swapped-fits (e .«vlan_id»)))
       ∙ swap-swap (e .«vlan_id») (a .vlan-fits)
 
   -- IN_PPORT of one who has it
-  port-read : (who : ℕ) → hasUser 3 who ≡ true → value (regionOf (flowFields who e)) 6 ≡ e .«in_pport»
+  port-read : (who : ℕ) → hasUser 3 who ≡ true → value own (regionOf (flowFields who e)) 6 ≡ e .«in_pport»
   unfolding isListed ruleOf ruleIn rows flowHas flowValue
   port-read who uses = value-at who e 6 (e .«in_pport») (omega arith) (rw uses) refl (a .port-fits)
 
   reads-0 : e .table ≡ 0 → Reads (regionOf (flowFields flow0 e)) e
   unfolding isListed ruleOf ruleIn rows hasUser flowHas flowValue flowUser everyBelow hasNew
   reads-0 z =
-      reads flow0 e terms a refl refl (rw z) refl
+      reads flow0 e ports a refl refl (rw z) refl
       (match-0 (regionOf (flowFields flow0 e)) e z (port-read flow0 refl) (value-at flow0 e 7 (e .«in_pport_mask») (omega arith) refl refl (a .mask-fits)))
       (rw z)
 
@@ -207,9 +207,9 @@ module _ (terms : Terms) (e : FlowEntry) (a : FlowAdmitted terms e) where
   unfolding isListed ruleOf ruleIn rows hasUser flowHas flowValue flowUser everyBelow hasNew swap16
   reads-10 z =
       let none : eqb (e .«vlan_id») 0 ≡ false → swap16 (e .«new_vlan_id») ≡ 0 = λ p. ap swap16 (a .no-new (rw (z, p))) in
-      let new : value (regionOf (flowFields flow10 e)) 19 ≡ swap16 (e .«new_vlan_id») =
+      let new : value own (regionOf (flowFields flow10 e)) 19 ≡ swap16 (e .«new_vlan_id») =
       flow-value flow10 e 19 (omega arith) (swapped-fits (e .«new_vlan_id»)) ∙ optional (eqb (e .«vlan_id») 0) (swap16 (e .«new_vlan_id»)) none in
-      reads flow10 e terms a refl refl (rw z) refl
+      reads flow10 e ports a refl refl (rw z) refl
       (match-10 (regionOf (flowFields flow10 e)) e z (port-read flow10 refl) (vlan-read flow10 refl)
       (ap swap16 new ∙ swap-swap (e .«new_vlan_id») (a .new-fits)))
       (rw z)
@@ -218,11 +218,11 @@ module _ (terms : Terms) (e : FlowEntry) (a : FlowAdmitted terms e) where
   unfolding isListed ruleOf ruleIn rows hasUser flowHas flowValue flowUser everyBelow hasNew
   reads-50 z =
       let s = regionOf (flowFields flow50 e) in
-      let mac : value s 24 ≡ e .«dst_mac» =
+      let mac : value own s 24 ≡ e .«dst_mac» =
       flow-value flow50 e 24 (omega arith) (a .mac-fits) ∙ optional (e .«has_mac») (e .«dst_mac») (a .no-mac) in
-      let group : value s 10 ≡ e .«group_id» =
+      let group : value own s 10 ≡ e .«group_id» =
       flow-value flow50 e 10 (omega arith) (a .group-fits) ∙ optional (e .«has_group») (e .«group_id») (a .no-group) in
-      reads flow50 e terms a refl refl (rw z) refl
+      reads flow50 e ports a refl refl (rw z) refl
       (match-50 s e z (vlan-read flow50 refl) (flow-given flow50 e 24 (omega arith)) mac (flow-given flow50 e 10 (omega arith)) group)
       (rw z)
 
@@ -239,46 +239,46 @@ module _ (terms : Terms) (e : FlowEntry) (a : FlowAdmitted terms e) where
       (λ z. of-user flow50 (rw z) (reads-50 z))
 
   -- both commands carry the entry's own flow
-  flow-carried : (make : Flow → Command) → flowFrom terms (regionOf (flowFields (flowUser (e .table)) e)) make ≡ carried (make (flowIn e)) []
-  flow-carried make = decodes terms e (regionOf (flowFields (flowUser (e .table)) e)) make a flow-reads
+  flow-carried : (make : Flow → Command) → flowFrom (currentTerms ports) (regionOf (flowFields (flowUser (e .table)) e)) make ≡ carried (make (flowIn e)) []
+  flow-carried make = decodes ports e (regionOf (flowFields (flowUser (e .table)) e)) make a flow-reads
 
   -- a del carries its key
-  key-carried : flowKeyIn (regionOf (flowFields flowDel e)) ≡ carried (FlowDel (e .cookie)) []
+  key-carried : flowKeyIn (currentTerms ports) (regionOf (flowFields flowDel e)) ≡ carried (FlowDel (e .cookie)) []
   unfolding flowKeyIn need isListed ruleOf ruleIn rows hasUser flowHas flowValue everyBelow
   key-carried = rw (flow-right flowDel e refl, value-at flowDel e 5 (e .cookie) (omega arith) refl refl (a .cookie-fits))
 
 -- a payload's command is decoded from its fields, whatever the entry
-flow-decoded : (terms : Terms) (command who : ℕ) (e : FlowEntry) → command < 2 ^ 16 → isCommand command ≡ true
-    → decode terms (payloadOf command (flowFields who e)) ≡ commandIn terms command (regionOf (flowFields who e))
-flow-decoded terms command who e h known =
+flow-decoded : (ports command who : ℕ) (e : FlowEntry) → command < 2 ^ 16 → isCommand command ≡ true
+    → decode (currentTerms ports) (payloadOf command (flowFields who e)) ≡ commandIn (currentTerms ports) command (regionOf (flowFields who e))
+flow-decoded ports command who e h known =
     let l = flow-length who e in
-    decode-payload command (flowFields who e) h (omega arith) terms known (flow-encodable who e)
+    decode-payload command (flowFields who e) h (omega arith) ports known (flow-encodable who e)
 
-module _ (terms : Terms) (e : FlowEntry) (a : FlowAdmitted terms e) where
-  pub decode-add : decode terms (flowPayload 3 e) ≡ carried (FlowAdd (flowIn e)) []
+module _ (ports : ℕ) (e : FlowEntry) (a : FlowAdmitted ports e) where
+  pub decode-add : decode (currentTerms ports) (flowPayload 3 e) ≡ carried (FlowAdd (flowIn e)) []
   unfolding flowPayload isCommand commandIn
-  decode-add = flow-decoded terms 3 (flowUser (e .table)) e (omega arith) refl ∙ flow-carried terms e a FlowAdd
+  decode-add = flow-decoded ports 3 (flowUser (e .table)) e (omega arith) refl ∙ flow-carried ports e a FlowAdd
 
-  pub decode-mod : decode terms (flowPayload 4 e) ≡ carried (FlowMod (flowIn e)) []
+  pub decode-mod : decode (currentTerms ports) (flowPayload 4 e) ≡ carried (FlowMod (flowIn e)) []
   unfolding flowPayload isCommand commandIn
-  decode-mod = flow-decoded terms 4 (flowUser (e .table)) e (omega arith) refl ∙ flow-carried terms e a FlowMod
+  decode-mod = flow-decoded ports 4 (flowUser (e .table)) e (omega arith) refl ∙ flow-carried ports e a FlowMod
 
-  pub decode-del : decode terms (flowPayload 5 e) ≡ carried (FlowDel (e .cookie)) []
+  pub decode-del : decode (currentTerms ports) (flowPayload 5 e) ≡ carried (FlowDel (e .cookie)) []
   unfolding flowPayload isCommand commandIn
-  decode-del = flow-decoded terms 5 flowDel e (omega arith) refl ∙ key-carried terms e a
+  decode-del = flow-decoded ports 5 flowDel e (omega arith) refl ∙ key-carried ports e a
 
   -- THE ROUND TRIP: what each payload does to any tables
-  pub flow-add : (t : Tables) → execute terms (flowPayload 3 e) t
+  pub flow-add : (t : Tables) → execute (currentTerms ports) (flowPayload 3 e) t
       ≡ executed t (addStatus cookieOf maxFlows (e .cookie) (t .flows)) (withFlows t (insert cookieOf e (t .flows)))
   unfolding execute carryOut carried decodedStatus decodedEffect commandStatus commandEffect flowIn
   flow-add t = rw (decode-add, a .stored)
 
-  pub flow-mod : (t : Tables) → execute terms (flowPayload 4 e) t
+  pub flow-mod : (t : Tables) → execute (currentTerms ports) (flowPayload 4 e) t
       ≡ executed t (heldStatus cookieOf (e .cookie) (t .flows)) (withFlows t (replace cookieOf e (t .flows)))
   unfolding execute carryOut carried decodedStatus decodedEffect commandStatus commandEffect flowIn
   flow-mod t = rw (decode-mod, a .stored)
 
-  pub flow-del : (t : Tables) → execute terms (flowPayload 5 e) t
+  pub flow-del : (t : Tables) → execute (currentTerms ports) (flowPayload 5 e) t
       ≡ executed t (heldStatus cookieOf (e .cookie) (t .flows)) (withFlows t (remove cookieOf (e .cookie) (t .flows)))
   unfolding execute carryOut carried decodedStatus decodedEffect commandStatus commandEffect
   flow-del t = rw decode-del

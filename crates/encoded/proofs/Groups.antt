@@ -1,4 +1,4 @@
--- A group's payload read back: what each look-up finds in its fields, what decoding makes of these, and so what carrying it out does.
+-- A group's payload read back by a device: what each look-up finds in its fields, what decoding makes of these, and so what carrying it out does.
 -- Assumes nothing.
 use Prim.Native.Nat.{ℕ, _≤_, _<_, _^_}
 use mathlib.Core.Bool.{Bool, true, false, not, _||_}
@@ -10,23 +10,24 @@ use lib.Seq.{take-append-seam}
 use lib.Dec.{leb, eqb}
 use borrow.Author.Tests.{le-leb, eq-eqb, ne-eqb}
 use Rattle.rules.specs.Choose.{choose}
-use Rattle.rules.specs.Limits.{fieldTypes, maxGroups}
+use Rattle.rules.specs.Limits.{fieldTypes, maxGroups, maxPayload}
 use Rattle.rules.specs.Region.{filled, fitsWidth}
 use Rattle.rules.specs.Fields.{rows, ruleIn, ruleOf, hasUser, field, value, nestIn, everyBelow, fieldsRight, group0, groupMany, groupDel}
 use Rattle.rules.specs.GroupId.{groupType, groupVlan, groupLow}
 use Rattle.rules.specs.Members.{membersRight, pad}
+use Rattle.rules.specs.Registers.{currentTerms}
 use Rattle.rules.specs.Keyed.{insert, replace, remove}
 use Rattle.rules.specs.Decode.{need, carried, groupOf, membersOf, groupAllowed, groupUser, groupIn, groupKeyIn, isCommand, commandIn}
 use Rattle.rules.specs.Tables.{Tables, idOf, groupEntry, withGroups, addStatus, heldStatus, commandStatus, commandEffect, decodedStatus, decodedEffect, executed, carryOut, execute}
 use Rattle.rules.specs.Encode.{regionOf, payloadOf, numberBytes, memberFields, groupValue, groupBytes, groupFields}
 use Rattle.rules.specs.Undo.{groupPayload}
-use Rattle.rules.specs.declared.Terms.{Terms}
 use Rattle.rules.specs.declared.Group.{Group}
 use Rattle.rules.specs.declared.Command.{Command}
 use Rattle.rules.specs.declared.Command.the-variants.{GroupAdd, GroupMod, GroupDel}
 use Rattle.rules.specs.declared.GroupEntry.{GroupEntry}
 use Rattle.rules.proofs.Cases.{by-test, by-eq}
 use Rattle.rules.proofs.GroupId.{vlan-below, low-below}
+use Rattle.encoded.specs.Placed.{own}
 use Rattle.encoded.specs.Admitted.{GroupAdmitted}
 use Rattle.encoded.proofs.Region.{isListed, fields-encodable, value-field, nest-field, fields-right, sumFrom, length-fields, length-payload, decode-payload}
 use Rattle.encoded.proofs.Flows.{wide-number, few-bytes, number-read}
@@ -56,7 +57,7 @@ number-bytes : (e : GroupEntry) (t : ℕ) → (t ≡ 13 → ⊥) → groupBytes 
 unfolding groupBytes
 number-bytes e t h = rw (ne-eqb t 13 h)
 
-module _ (terms : Terms) (e : GroupEntry) (a : GroupAdmitted terms e) where
+module _ (ports : ℕ) (e : GroupEntry) (a : GroupAdmitted ports e) where
   -- the members that are written
   members-written : take (e .«member_count») (e .members) ≡ a .lows
   unfolding pad
@@ -79,7 +80,7 @@ module _ (terms : Terms) (e : GroupEntry) (a : GroupAdmitted terms e) where
   short : (t : ℕ) → length (groupBytes e t) ≤ choose (eqb t 13) 992 8
   short t = by-eq t 13 (λ h p. rw p (rw h nest-length)) (λ h p. rw (p, number-bytes e t h) (few-bytes t (groupValue e t)))
 
-  encodable-length : (t : ℕ) → length (groupBytes e t) < 2 ^ 16
+  encodable-length : (t : ℕ) → length (groupBytes e t) ≤ maxPayload
   encodable-length t = by-eq t 13 (λ h p. let l = short t in omega (arith, simp p at l)) (λ h p. let l = short t in omega (arith, simp p at l))
 
   wide : (t : ℕ) → fitsWidth (ruleOf t .width) (length (groupBytes e t)) ≡ true
@@ -91,53 +92,53 @@ module _ (terms : Terms) (e : GroupEntry) (a : GroupAdmitted terms e) where
   -- what is read of one that is listed for `who`
   module _ (who : ℕ) where
     value-read : (k v : ℕ) → k < fieldTypes → (k ≡ 13 → ⊥) → isListed who (λ t. true) k ≡ true
-        → groupValue e k ≡ v → v < 256 ^ (ruleOf k .width) → value (regionOf (groupFields who e)) k ≡ v
+        → groupValue e k ≡ v → v < 256 ^ (ruleOf k .width) → value own (regionOf (groupFields who e)) k ≡ v
     unfolding groupFields
     value-read k v below plain listed is fits =
         value-field who (λ t. true) (groupBytes e) encodable-length wide k below
         ∙ rw (listed, number-bytes e k plain, is) (number-read k v fits)
 
     nest-read : isListed who (λ t. true) 13 ≡ true
-        → nestIn (regionOf (groupFields who e)) (field (regionOf (groupFields who e)) 13) ≡ regionOf (memberFields (groupVlan (e .id)) 1 (a .lows))
+        → nestIn (regionOf (groupFields who e)) (field own (regionOf (groupFields who e)) 13) ≡ regionOf (memberFields (groupVlan (e .id)) 1 (a .lows))
     unfolding groupFields
     nest-read listed = nest-field who (λ t. true) (groupBytes e) encodable-length wide 13 (omega arith) ∙ rw (listed, nest-bytes)
 
     all-right : everyBelow fieldTypes (λ t. not (hasUser (ruleOf t .needs) who) || true) ≡ true
-        → fieldsRight (regionOf (groupFields who e)) who ≡ true
+        → fieldsRight own (regionOf (groupFields who e)) who ≡ true
     unfolding groupFields
     all-right every = fields-right who (λ t. true) (groupBytes e) encodable-length wide every
 
-    id-read : isListed who (λ t. true) 10 ≡ true → value (regionOf (groupFields who e)) 10 ≡ e .id
+    id-read : isListed who (λ t. true) 10 ≡ true → value own (regionOf (groupFields who e)) 10 ≡ e .id
     unfolding groupValue ruleOf ruleIn rows
     id-read listed = value-read 10 (e .id) (omega arith) (λ h. absurd (omega arith)) listed refl (a .id-fits)
 
   -- ---- What decoding makes of a region that tells it
-  module _ (s : List ℕ) (i : value s 10 ≡ e .id) where
-    single-in : (make : Group → Command) → groupType (e .id) ≡ 0 → fieldsRight s group0 ≡ true
-        → value s 8 ≡ groupLow (e .id) → value s 43 ≡ choose (e .«pop_vlan») 1 0
-        → groupIn terms s make ≡ carried (make (headOf e)) (a .lows)
+  module _ (s : List ℕ) (i : value own s 10 ≡ e .id) where
+    single-in : (make : Group → Command) → groupType (e .id) ≡ 0 → fieldsRight own s group0 ≡ true
+        → value own s 8 ≡ groupLow (e .id) → value own s 43 ≡ choose (e .«pop_vlan») 1 0
+        → groupIn (currentTerms ports) s make ≡ carried (make (headOf e)) (a .lows)
     unfolding groupIn groupUser groupAllowed groupOf membersOf need
     single-in make z r p v =
         let none : a .lows ≡ [] = a .single z .0 in
-        let port : groupLow (e .id) ≤ terms .ports = a .single z .1 in
+        let port : groupLow (e .id) ≤ ports = a .single z .1 in
         let count : e .«member_count» ≡ 0 = a .count-is ∙ ap length none in
         rw (i, z, r, a .id-allowed, p, v, none, count, eq-eqb (groupLow (e .id)) (groupLow (e .id)) refl, le-leb _ _ port, bit-small (e .«pop_vlan»), bit-read (e .«pop_vlan»))
 
-    many-in : (make : Group → Command) → (groupType (e .id) ≡ 0 → ⊥) → fieldsRight s groupMany ≡ true
-        → value s 12 ≡ e .«member_count» → nestIn s (field s 13) ≡ regionOf (memberFields (groupVlan (e .id)) 1 (a .lows))
-        → groupIn terms s make ≡ carried (make (headOf e)) (a .lows)
+    many-in : (make : Group → Command) → (groupType (e .id) ≡ 0 → ⊥) → fieldsRight own s groupMany ≡ true
+        → value own s 12 ≡ e .«member_count» → nestIn s (field own s 13) ≡ regionOf (memberFields (groupVlan (e .id)) 1 (a .lows))
+        → groupIn (currentTerms ports) s make ≡ carried (make (headOf e)) (a .lows)
     unfolding groupIn groupUser groupAllowed groupOf membersOf membersRight need
     many-in make z r c n =
         let some : 1 ≤ length (a .lows) = a .many z .0 in
         rw (i, ne-eqb (groupType (e .id)) 0 z, r, a .id-allowed, n, members-read (groupVlan (e .id)) (a .lows) (vlan-below (e .id)) (a .at-most) (a .lows-fit) (a .fresh), c, a .count-is, le-leb 1 (length (a .lows)) some, le-leb (length (a .lows)) 62 (a .at-most), eq-eqb (length (a .lows)) (length (a .lows)) refl, a .many z .1)
 
-    key-in : fieldsRight s groupDel ≡ true → groupKeyIn s ≡ carried (GroupDel (e .id)) []
+    key-in : fieldsRight own s groupDel ≡ true → groupKeyIn (currentTerms ports) s ≡ carried (GroupDel (e .id)) []
     unfolding groupKeyIn need
     key-in r = rw (r, i, a .id-allowed)
 
   -- ---- What its payloads do
 
-  group-in : (make : Group → Command) → groupIn terms (regionOf (groupFields (groupUser (e .id)) e)) make ≡ carried (make (headOf e)) (a .lows)
+  group-in : (make : Group → Command) → groupIn (currentTerms ports) (regionOf (groupFields (groupUser (e .id)) e)) make ≡ carried (make (headOf e)) (a .lows)
   unfolding groupUser isListed hasUser ruleOf ruleIn rows everyBelow groupValue
   group-in make =
       by-eq (groupType (e .id)) 0
@@ -152,7 +153,7 @@ module _ (terms : Terms) (e : GroupEntry) (a : GroupAdmitted terms e) where
       (value-read groupMany 12 (e .«member_count») (omega arith) (λ h. absurd (omega arith)) refl refl (omega (arith, a .count-is, a .at-most)))
       (nest-read groupMany refl)))
 
-  group-key-in : groupKeyIn (regionOf (groupFields groupDel e)) ≡ carried (GroupDel (e .id)) []
+  group-key-in : groupKeyIn (currentTerms ports) (regionOf (groupFields groupDel e)) ≡ carried (GroupDel (e .id)) []
   unfolding isListed hasUser ruleOf ruleIn rows everyBelow
   group-key-in = key-in (regionOf (groupFields groupDel e)) (id-read groupDel refl) (all-right groupDel refl)
 
@@ -172,29 +173,29 @@ module _ (terms : Terms) (e : GroupEntry) (a : GroupAdmitted terms e) where
   -- carried out, it is the command that its fields decode to
   module _ (t : Tables) where
     carries : (who command : ℕ) (c : Command) (lows : List ℕ) → command < 2 ^ 16 → isCommand command ≡ true
-        → commandIn terms command (regionOf (groupFields who e)) ≡ carried c lows
-        → execute terms (payloadOf command (groupFields who e)) t ≡ executed t (commandStatus t c) (commandEffect t c (pad lows))
+        → commandIn (currentTerms ports) command (regionOf (groupFields who e)) ≡ carried c lows
+        → execute (currentTerms ports) (payloadOf command (groupFields who e)) t ≡ executed t (commandStatus t c) (commandEffect t c (pad lows))
     unfolding execute carryOut carried decodedStatus decodedEffect groupFields
     carries who command c lows fits known is =
         let encodable = fields-encodable who (λ t. true) (groupBytes e) encodable-length in
-        let decoded = decode-payload command (groupFields who e) fits (omega (arith, fields-short who)) terms known encodable in
+        let decoded = decode-payload command (groupFields who e) fits (omega (arith, fields-short who)) ports known encodable in
         rw (decoded, is)
 
-    pub group-add : execute terms (groupPayload 7 e) t ≡ executed t (addStatus idOf maxGroups (e .id) (t .groups)) (withGroups t (insert idOf e (t .groups)))
+    pub group-add : execute (currentTerms ports) (groupPayload 7 e) t ≡ executed t (addStatus idOf maxGroups (e .id) (t .groups)) (withGroups t (insert idOf e (t .groups)))
     unfolding groupPayload isCommand commandIn commandStatus commandEffect
     group-add =
         carries (groupUser (e .id)) 7 (GroupAdd (headOf e)) (a .lows) (omega arith) refl (group-in GroupAdd)
         ∙ rw stored
 
-    pub group-mod : execute terms (groupPayload 8 e) t ≡ executed t (heldStatus idOf (e .id) (t .groups)) (withGroups t (replace idOf e (t .groups)))
+    pub group-mod : execute (currentTerms ports) (groupPayload 8 e) t ≡ executed t (heldStatus idOf (e .id) (t .groups)) (withGroups t (replace idOf e (t .groups)))
     unfolding groupPayload isCommand commandIn commandStatus commandEffect
     group-mod =
         carries (groupUser (e .id)) 8 (GroupMod (headOf e)) (a .lows) (omega arith) refl (group-in GroupMod)
         ∙ rw stored
 
-    pub group-del : execute terms (groupPayload 9 e) t ≡ executed t (heldStatus idOf (e .id) (t .groups)) (withGroups t (remove idOf (e .id) (t .groups)))
+    pub group-del : execute (currentTerms ports) (groupPayload 9 e) t ≡ executed t (heldStatus idOf (e .id) (t .groups)) (withGroups t (remove idOf (e .id) (t .groups)))
     unfolding groupPayload isCommand commandIn commandStatus commandEffect
     group-del = carries groupDel 9 (GroupDel (e .id)) [] (omega arith) refl group-key-in
 
-pub group-short : (terms : Terms) (command : ℕ) (e : GroupEntry) → GroupAdmitted terms e → length (groupPayload command e) ≤ 4096
-group-short terms command e a = payload-short terms e a command
+pub group-short : (ports command : ℕ) (e : GroupEntry) → GroupAdmitted ports e → length (groupPayload command e) ≤ 4096
+group-short ports command e a = payload-short ports e a command

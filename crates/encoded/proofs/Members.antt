@@ -20,9 +20,9 @@ use Rattle.rules.specs.declared.Tlv.{Tlv}
 use Rattle.rules.specs.declared.FieldRule.{FieldRule}
 use Rattle.rules.proofs.Bytes.{length-bytesOf}
 use Rattle.rules.proofs.GroupId.{member-type, member-vlan, member-low}
-use Rattle.encoded.specs.Placed.{placed, Encodable}
+use Rattle.encoded.specs.Placed.{own, placed, Encodable}
 use Rattle.encoded.specs.Admitted.{Fresh}
-use Rattle.encoded.proofs.Region.{number-front, length-tlv, bytes-there, grown, tlvs-region, encoded-whole}
+use Rattle.encoded.proofs.Region.{number-front, length-fits, length-tlv, bytes-there, grown, tlvs-region, encoded-whole}
 
 -- ---- The width of a member
 
@@ -96,7 +96,7 @@ module _ (vlan : ℕ) where
   unfolding memberFields
   members-encodable k [] a h = tt
   members-encodable k (low ∷ lows) a h =
-      (omega arith, omega (arith, member-size vlan k low a (omega arith)), members-encodable (suc k) lows (omega arith) (omega arith))
+      (omega arith, length-fits _ (omega (arith, member-size vlan k low a (omega arith))), members-encodable (suc k) lows (omega arith) (omega arith))
 
   pub members-length : (k : ℕ) (lows : List ℕ) → 1 ≤ k → k + length lows ≤ 63 → length (regionOf (memberFields vlan k lows)) ≡ 16 * length lows
   unfolding memberFields regionOf filled
@@ -109,7 +109,7 @@ module _ (vlan : ℕ) where
 
 -- THE MEMBERS READ BACK
 pub members-read : (vlan : ℕ) (lows : List ℕ) → vlan < 4096 → length lows ≤ 62 → ((j : ℕ) → getD lows j 0 < 65536) → Fresh [] lows
-    → membersIn (regionOf (memberFields vlan 1 lows)) vlan ≡ record { right = true; lows = lows }
+    → membersIn own (regionOf (memberFields vlan 1 lows)) vlan ≡ record { right = true; lows = lows }
 unfolding membersIn
 members-read vlan lows v fits small fresh =
     let c : Encodable (memberFields vlan 1 lows) = members-encodable vlan 1 lows (omega arith) (omega arith) in

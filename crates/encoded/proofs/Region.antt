@@ -1,4 +1,5 @@
--- Encoded regions: the walk meets the fields where they were put, one after the other, and a look-up finds the bytes of its type.
+-- Encoded regions, read in the device's own length meaning, in which they are written: the walk meets the fields where they were put, one
+-- after the other, and a look-up finds the bytes of its type.
 -- Assumes nothing.
 use Prim.Native.Nat.{ℕ, zero, suc, _+_, _-_, _*_, _/_, _≤_, _<_, _^_}
 use mathlib.Core.Bool.{Bool, true, false, not, _&&_, _||_}
@@ -11,14 +12,15 @@ use lib.ListN.{length, drop, replicate, length-append, length-replicate}
 use lib.Seq.{take-append-seam, drop-append-seam, drop-append-add, drop-at}
 use borrow.Author.Tests.{eqb-true, eq-eqb, ne-eqb, lt-ltb, le-ltb}
 use Rattle.rules.specs.Choose.{choose}
-use Rattle.rules.specs.Limits.{fieldTypes}
+use Rattle.rules.specs.Limits.{fieldTypes, maxPayload}
 use Rattle.rules.specs.Bytes.{le, leAt, bytesOf, part}
-use Rattle.rules.specs.Region.{valueSize, lengthField, filled, tlvAt, tlvEnd, tlvs, endOf, wellFormed, fitsWidth, meet, scan, lookup}
+use Rattle.rules.specs.Version.{headerCounted, headerBytes}
+use Rattle.rules.specs.Region.{lengthField, filled, tlvAt, tlvEnd, tlvs, endOf, wellFormed, fitsWidth, meet, scan, lookup}
 use Rattle.rules.specs.Keyed.{find, Above, Rising}
 use Rattle.rules.specs.Fields.{ruleOf, hasUser, field, isAt, numberIn, nestIn, given, value, right, fieldRight, everyBelow, fieldsRight}
+use Rattle.rules.specs.Registers.{currentTerms}
 use Rattle.rules.specs.Encode.{Field, fieldOf, tlvOf, regionOf, payloadOf, fieldsFrom, fieldsOf}
 use Rattle.rules.specs.Decode.{need, isCommand, commandIn, commandType, commandInfo, decode}
-use Rattle.rules.specs.declared.Terms.{Terms}
 use Rattle.rules.specs.declared.Tlv.{Tlv}
 use Rattle.rules.specs.declared.Found.{Found}
 use Rattle.rules.specs.declared.Found.the-variants.{Absent, At}
@@ -26,14 +28,19 @@ use Rattle.rules.specs.declared.Step.the-variants.{Next}
 use Rattle.rules.proofs.Cases.{by-test, by-eq, by-order, not-both, gt-eqb, and-left, and-right}
 use Rattle.rules.proofs.Keyed.{isFound, find-below, above-less}
 use Rattle.rules.proofs.Bytes.{le-front, le-bytesOf, length-bytesOf}
-use Rattle.rules.proofs.Region.{filled-covers, step-next, step-end, tlvs-next, tlvs-end}
-use Rattle.encoded.specs.Placed.{placed, Encodable}
+use Rattle.rules.proofs.Region.{filled-covers, size-back, is-tlv, step-next, step-end, tlvs-next, tlvs-end}
+use Rattle.encoded.specs.Placed.{own, placed, Encodable}
 
 -- ---- One TLV
 
 -- a number that fits is read from its bytes, whatever follows them
 pub number-front : (n v : ℕ) (t : List ℕ) → v < 256 ^ n → le n (bytesOf n v ++ t) ≡ v
 number-front n v t h = le-front n (bytesOf n v) t (length-bytesOf n v) ∙ (le-bytesOf n v ∙ mod-eq-of-lt h)
+
+-- a length field holds every length that occurs in a payload
+pub length-fits : (n : ℕ) → n ≤ maxPayload → lengthField own n < 2 ^ 16
+unfolding lengthField headerBytes headerCounted
+length-fits n h = omega arith
 
 -- zeros up to a multiple of 8
 unfoldable pub fill : Field → List ℕ
@@ -44,16 +51,16 @@ behind : Field → List ℕ → List ℕ
 behind f rest = bytesOf 2 0 ++ (f .bytes ++ (fill f ++ rest))
 
 tlv-parts : (f : Field) (rest : List ℕ)
-    → tlvOf f ++ rest ≡ bytesOf 4 (f .kind) ++ (bytesOf 2 (length (f .bytes)) ++ behind f rest)
-unfolding tlvOf lengthField behind fill
+    → tlvOf f ++ rest ≡ bytesOf 4 (f .kind) ++ (bytesOf 2 (lengthField own (length (f .bytes))) ++ behind f rest)
+unfolding tlvOf behind fill
 tlv-parts f rest = rw (append-assoc, append-assoc, append-assoc, append-assoc)
 
 pub length-tlv : (f : Field) → length (tlvOf f) ≡ 8 + filled (length (f .bytes))
-unfolding tlvOf lengthField
+unfolding tlvOf
 length-tlv f =
     let n = length (f .bytes) in
     let c = filled-covers n in
-    rw (length-append, length-append, length-append, length-append, length-bytesOf 4 (f .kind), length-bytesOf 2 n, length-bytesOf 2 0, length-replicate)
+    rw (length-append, length-append, length-append, length-append, length-bytesOf 4 (f .kind), length-bytesOf 2 (lengthField own n), length-bytesOf 2 0, length-replicate)
     (omega arith)
 
 -- a region is a whole number of eights, so that a nest has no fill
@@ -84,11 +91,24 @@ filled-region fs = let r = length-region-8 fs in let a = r .are in omega (arith,
 
 -- what is read at a field's place, and where its bytes stand
 module _ (pre : List ℕ) (f : Field) (rest : List ℕ) where
-  pub tlv-there : f .kind < 2 ^ 32 → length (f .bytes) < 2 ^ 16
-      → tlvAt (pre ++ (tlvOf f ++ rest)) (length pre) ≡ record { kind = f .kind; start = length pre + 8; size = length (f .bytes) }
-  unfolding tlvAt leAt valueSize
-  tlv-there hk hl =
-      rw (drop-append-seam, drop-append-add, tlv-parts, number-front 4 (f .kind) _ hk, drop-at (bytesOf 4 (f .kind)) _ 4 (length-bytesOf 4 (f .kind)), number-front 2 (length (f .bytes)) _ hl)
+  kind-there : f .kind < 2 ^ 32 → leAt 4 (pre ++ (tlvOf f ++ rest)) (length pre) ≡ f .kind
+  unfolding leAt
+  kind-there h = rw (drop-append-seam, tlv-parts, number-front 4 (f .kind) _ h)
+
+  length-there : lengthField own (length (f .bytes)) < 2 ^ 16
+      → leAt 2 (pre ++ (tlvOf f ++ rest)) (length pre + 4) ≡ lengthField own (length (f .bytes))
+  unfolding leAt
+  length-there h =
+      rw (drop-append-add, tlv-parts, drop-at (bytesOf 4 (f .kind)) _ 4 (length-bytesOf 4 (f .kind)), number-front 2 (lengthField own (length (f .bytes))) _ h)
+
+  pub tlv-there : f .kind < 2 ^ 32 → lengthField own (length (f .bytes)) < 2 ^ 16
+      → tlvAt own (pre ++ (tlvOf f ++ rest)) (length pre) ≡ record { kind = f .kind; start = length pre + 8; size = length (f .bytes) }
+  unfolding tlvAt
+  tlv-there hk hl = rw (kind-there hk, length-there hl, size-back own (length (f .bytes)) .0)
+
+  -- a length that a TLV may have
+  long-enough : lengthField own (length (f .bytes)) < 2 ^ 16 → own ≤ leAt 2 (pre ++ (tlvOf f ++ rest)) (length pre + 4)
+  long-enough h = rw (length-there h) (size-back own (length (f .bytes)) .1)
 
   pub bytes-there : drop (length pre + 8) (pre ++ (tlvOf f ++ rest)) ≡ f .bytes ++ (fill f ++ rest)
   unfolding behind bytesOf
@@ -98,22 +118,22 @@ module _ (pre : List ℕ) (f : Field) (rest : List ℕ) where
 pub grown : (pre : List ℕ) (f : Field) → length (pre ++ tlvOf f) ≡ length pre + 8 + filled (length (f .bytes))
 grown pre f = omega (arith, length-append pre (tlvOf f), length-tlv f)
 
-pub tlvs-encoded : (pre : List ℕ) (fs : List Field) → Encodable fs → tlvs (pre ++ regionOf fs) (length pre) ≡ placed (length pre) fs
+pub tlvs-encoded : (pre : List ℕ) (fs : List Field) → Encodable fs → tlvs own (pre ++ regionOf fs) (length pre) ≡ placed (length pre) fs
 unfolding regionOf placed tlvEnd
-tlvs-encoded pre [] h = rw append-nil (tlvs-end pre (length pre) (step-end pre (length pre) refl))
+tlvs-encoded pre [] h = rw append-nil (tlvs-end own pre (length pre) (step-end own pre (length pre) refl))
 tlvs-encoded pre (f ∷ fs) h =
     let s = pre ++ (tlvOf f ++ regionOf fs) in
     let x : Tlv = record { kind = f .kind; start = length pre + 8; size = length (f .bytes) } in
-    let e : tlvAt s (length pre) ≡ x = tlv-there pre f (regionOf fs) (h .0) (h .1) in
+    let e : tlvAt own s (length pre) ≡ x = tlv-there pre f (regionOf fs) (h .0) (h .1) in
     let a : s ≡ pre ++ tlvOf f ++ regionOf fs = sym (append-assoc pre (tlvOf f) (regionOf fs)) in
-    let l : tlvEnd (tlvAt s (length pre)) ≤ length s =
+    let l : tlvEnd (tlvAt own s (length pre)) ≤ length s =
     rw e (omega (arith, ap length a, length-append (pre ++ tlvOf f) (regionOf fs), grown pre f)) in
-    let r : tlvs s (length pre + 8 + filled (length (f .bytes))) ≡ placed (length pre + 8 + filled (length (f .bytes))) fs =
+    let r : tlvs own s (length pre + 8 + filled (length (f .bytes))) ≡ placed (length pre + 8 + filled (length (f .bytes))) fs =
     rw (a, ← grown pre f) (tlvs-encoded (pre ++ tlvOf f) fs (h .2)) in
-    tlvs-next s (length pre) x (step-next s (length pre) l ∙ ap Next e) ∙ ap (λ (xs : List Tlv). x ∷ xs) r
+    tlvs-next own s (length pre) x (step-next own s (length pre) (is-tlv own s (length pre) (long-enough pre f (regionOf fs) (h .1)) l) ∙ ap Next e) ∙ ap (λ (xs : List Tlv). x ∷ xs) r
 
 -- the whole of it
-pub tlvs-region : (fs : List Field) → Encodable fs → tlvs (regionOf fs) 0 ≡ placed 0 fs
+pub tlvs-region : (fs : List Field) → Encodable fs → tlvs own (regionOf fs) 0 ≡ placed 0 fs
 tlvs-region fs h = tlvs-encoded [] fs h
 
 end-placed : (i : ℕ) (fs : List Field) → endOf i (placed i fs) ≡ i + length (regionOf fs)
@@ -123,7 +143,7 @@ end-placed i (f ∷ fs) =
     omega
     (arith, end-placed (i + 8 + filled (length (f .bytes))) fs, length-append (tlvOf f) (regionOf fs), length-tlv f)
 
-pub encoded-whole : (fs : List Field) → Encodable fs → wellFormed (regionOf fs) ≡ true
+pub encoded-whole : (fs : List Field) → Encodable fs → wellFormed own (regionOf fs) ≡ true
 unfolding wellFormed
 encoded-whole fs h = let e : 0 + length (regionOf fs) ≡ length (regionOf fs) = omega arith in rw (tlvs-region fs h) (eq-eqb _ _ (end-placed 0 fs ∙ e))
 
@@ -166,7 +186,7 @@ module _ (k w : ℕ) where
 pub record Stands (s : List ℕ) (k w : ℕ) (f : Field) : Type 0 where
   pub start : ℕ
   pub rest : List ℕ
-  pub lookup-is : lookup s k w ≡ At start (length (f .bytes))
+  pub lookup-is : lookup own s k w ≡ At start (length (f .bytes))
   pub bytes-are : drop start s ≡ f .bytes ++ rest
 
 -- the same of what stands after other bytes
@@ -217,7 +237,7 @@ module _ (k w : ℕ) where
 
 -- THE LAW OF LOOK-UP
 module _ (fs : List Field) (encodable : Encodable fs) (rising : Rising kindOf fs) (k w : ℕ) where
-  pub find-none : find kindOf k fs ≡ none → lookup (regionOf fs) k w ≡ Absent
+  pub find-none : find kindOf k fs ≡ none → lookup own (regionOf fs) k w ≡ Absent
   unfolding lookup
   find-none e = rw (tlvs-region fs encodable) (scan-none k w 0 fs rising e)
 
@@ -240,19 +260,19 @@ le-width (suc n) s t fits = le-front (suc n) s t (eqb-true (length s) (suc n) (s
 
 -- what is read of a field that stands there
 module _ {s : List ℕ} {k w : ℕ} {f : Field} (x : Stands s k w f) where
-  pub is-there : isAt (lookup s k w) ≡ true
+  pub is-there : isAt (lookup own s k w) ≡ true
   unfolding isAt
   is-there = rw (x .lookup-is)
 
-  pub right-there : (needed : Bool) → right needed (lookup s k w) ≡ true
+  pub right-there : (needed : Bool) → right needed (lookup own s k w) ≡ true
   unfolding right
   right-there needed = rw (x .lookup-is)
 
-  pub number-there : (n : ℕ) → fitsWidth n (length (f .bytes)) ≡ true → numberIn s n (lookup s k w) ≡ le n (f .bytes)
+  pub number-there : (n : ℕ) → fitsWidth n (length (f .bytes)) ≡ true → numberIn s n (lookup own s k w) ≡ le n (f .bytes)
   unfolding numberIn leAt
   number-there n fits = rw (x .lookup-is, x .bytes-are) (le-width n (f .bytes) (x .rest) fits)
 
-  pub nest-there : nestIn s (lookup s k w) ≡ f .bytes
+  pub nest-there : nestIn s (lookup own s k w) ≡ f .bytes
   unfolding nestIn part
   nest-there = rw (x .lookup-is, x .bytes-are) (take-append-seam (f .bytes) (x .rest))
 
@@ -291,14 +311,14 @@ module _ (who : ℕ) (has : ℕ → Bool) (bytes : ℕ → List ℕ) where
   unfolding fieldsOf
   fields-rise = rising-from fieldTypes 0
 
-  encodable-from : ((t : ℕ) → length (bytes t) < 2 ^ 16) → (n t : ℕ) → t + n < 2 ^ 32 → Encodable (fieldsFrom who has bytes n t)
+  encodable-from : ((t : ℕ) → length (bytes t) ≤ maxPayload) → (n t : ℕ) → t + n < 2 ^ 32 → Encodable (fieldsFrom who has bytes n t)
   unfolding fieldsFrom isListed
   encodable-from short zero t h = tt
   encodable-from short (suc n) t h =
       let r = encodable-from short n (suc t) (omega arith) in
-      by-test (isListed who has t) (λ p. simp p (omega arith, short t, r)) (λ p. simp p r)
+      by-test (isListed who has t) (λ p. simp p (omega arith, length-fits (length (bytes t)) (short t), r)) (λ p. simp p r)
 
-  pub fields-encodable : ((t : ℕ) → length (bytes t) < 2 ^ 16) → Encodable (fieldsOf who has bytes)
+  pub fields-encodable : ((t : ℕ) → length (bytes t) ≤ maxPayload) → Encodable (fieldsOf who has bytes)
   unfolding fieldsOf
   fields-encodable short = encodable-from short fieldTypes 0 (omega arith)
 
@@ -337,19 +357,19 @@ module _ (who : ℕ) (has : ℕ → Bool) (bytes : ℕ → List ℕ) where
   find-beyond k h = find-past fieldTypes 0 k (omega arith)
 
   -- bytes of the widths of the table; a nest is short enough for its length field
-  module _ (short : (t : ℕ) → length (bytes t) < 2 ^ 16) (wide : (t : ℕ) → fitsWidth (ruleOf t .width) (length (bytes t)) ≡ true) where
+  module _ (short : (t : ℕ) → length (bytes t) ≤ maxPayload) (wide : (t : ℕ) → fitsWidth (ruleOf t .width) (length (bytes t)) ≡ true) where
     pub field-stands : (k : ℕ) → k < fieldTypes → isListed who has k ≡ true
         → Stands (regionOf (fieldsOf who has bytes)) k (ruleOf k .width) (fieldOf k (bytes k))
     field-stands k h p =
         find-some (fieldsOf who has bytes) (fields-encodable short) fields-rise k (ruleOf k .width) (fieldOf k (bytes k)) (wide k)
         (find-field k h ∙ rw p)
 
-    pub field-absent : (k : ℕ) → k < fieldTypes → isListed who has k ≡ false → field (regionOf (fieldsOf who has bytes)) k ≡ Absent
+    pub field-absent : (k : ℕ) → k < fieldTypes → isListed who has k ≡ false → field own (regionOf (fieldsOf who has bytes)) k ≡ Absent
     unfolding field
     field-absent k h p =
         find-none (fieldsOf who has bytes) (fields-encodable short) fields-rise k (ruleOf k .width) (find-field k h ∙ rw p)
 
-    pub given-field : (k : ℕ) → k < fieldTypes → given (regionOf (fieldsOf who has bytes)) k ≡ isListed who has k
+    pub given-field : (k : ℕ) → k < fieldTypes → given own (regionOf (fieldsOf who has bytes)) k ≡ isListed who has k
     unfolding given field isAt
     given-field k h =
         by-test (isListed who has k)
@@ -357,7 +377,7 @@ module _ (who : ℕ) (has : ℕ → Bool) (bytes : ℕ → List ℕ) where
         (λ p. rw (p, field-absent k h p))
 
     pub value-field : (k : ℕ) → k < fieldTypes
-        → value (regionOf (fieldsOf who has bytes)) k ≡ choose (isListed who has k) (le (ruleOf k .width) (bytes k)) 0
+        → value own (regionOf (fieldsOf who has bytes)) k ≡ choose (isListed who has k) (le (ruleOf k .width) (bytes k)) 0
     unfolding value field numberIn
     value-field k h =
         by-test (isListed who has k)
@@ -365,7 +385,7 @@ module _ (who : ℕ) (has : ℕ → Bool) (bytes : ℕ → List ℕ) where
         (λ p. rw (p, field-absent k h p))
 
     pub nest-field : (k : ℕ) → k < fieldTypes
-        → nestIn (regionOf (fieldsOf who has bytes)) (field (regionOf (fieldsOf who has bytes)) k) ≡ choose (isListed who has k) (bytes k) []
+        → nestIn (regionOf (fieldsOf who has bytes)) (field own (regionOf (fieldsOf who has bytes)) k) ≡ choose (isListed who has k) (bytes k) []
     unfolding field nestIn
     nest-field k h =
         by-test (isListed who has k)
@@ -373,7 +393,7 @@ module _ (who : ℕ) (has : ℕ → Bool) (bytes : ℕ → List ℕ) where
         (λ p. rw (p, field-absent k h p))
 
     right-field : (k : ℕ) → k < fieldTypes → not (hasUser (ruleOf k .needs) who) || has k ≡ true
-        → fieldRight (regionOf (fieldsOf who has bytes)) who k ≡ true
+        → fieldRight own (regionOf (fieldsOf who has bytes)) who k ≡ true
     unfolding fieldRight isListed field right
     right-field k h e =
         by-test (hasUser (ruleOf k .uses) who)
@@ -384,7 +404,7 @@ module _ (who : ℕ) (has : ℕ → Bool) (bytes : ℕ → List ℕ) where
 
     -- who has every field that it needs finds all right
     pub fields-right : everyBelow fieldTypes (λ t. not (hasUser (ruleOf t .needs) who) || has t) ≡ true
-        → fieldsRight (regionOf (fieldsOf who has bytes)) who ≡ true
+        → fieldsRight own (regionOf (fieldsOf who has bytes)) who ≡ true
     unfolding fieldsRight
     fields-right e = every-map _ _ fieldTypes right-field e
 
@@ -421,13 +441,13 @@ length-payload command fields =
     omega
     (arith, length-append (tlvOf a) (tlvOf b ++ []), length-append (tlvOf b) [], length-tlv a, length-tlv b, f, filled-region fields)
 
-module _ (command : ℕ) (fields : List Field) (fits : command < 2 ^ 16) (short : length (regionOf fields) < 2 ^ 16) where
+module _ (command : ℕ) (fields : List Field) (fits : command < 2 ^ 16) (short : length (regionOf fields) ≤ maxPayload) where
   top : List Field
   top = fieldOf 1 (bytesOf 2 command) ∷ fieldOf 2 (regionOf fields) ∷ []
 
   top-encodable : Encodable top
   unfolding top bytesOf
-  top-encodable = (omega arith, omega arith, (omega arith, short, tt))
+  top-encodable = (omega arith, length-fits 2 (omega arith), (omega arith, length-fits (length (regionOf fields)) short, tt))
 
   top-rises : Rising kindOf top
   unfolding top
@@ -441,13 +461,13 @@ module _ (command : ℕ) (fields : List Field) (fits : command < 2 ^ 16) (short 
   unfolding top find payloadOf fitsWidth
   info-stands = find-some top top-encodable top-rises 2 0 (fieldOf 2 (regionOf fields)) refl refl
 
-  -- A PAYLOAD'S COMMAND IS DECODED FROM ITS FIELDS
-  pub decode-payload : (terms : Terms) → isCommand command ≡ true → Encodable fields
-      → decode terms (payloadOf command fields) ≡ commandIn terms command (regionOf fields)
+  -- A PAYLOAD'S COMMAND IS DECODED FROM ITS FIELDS, by a device
+  pub decode-payload : (ports : ℕ) → isCommand command ≡ true → Encodable fields
+      → decode (currentTerms ports) (payloadOf command fields) ≡ commandIn (currentTerms ports) command (regionOf fields)
   unfolding decode need commandType commandInfo
-  decode-payload terms known encodable =
-      let whole : wellFormed (payloadOf command fields) ≡ true = unfold payloadOf top in encoded-whole top top-encodable in
-      let number : numberIn (payloadOf command fields) 2 (lookup (payloadOf command fields) 1 2) ≡ command =
+  decode-payload ports known encodable =
+      let whole : wellFormed own (payloadOf command fields) ≡ true = unfold payloadOf top in encoded-whole top top-encodable in
+      let number : numberIn (payloadOf command fields) 2 (lookup own (payloadOf command fields) 1 2) ≡ command =
       number-there type-stands 2 (unfold fitsWidth bytesOf in refl) ∙ (le-bytesOf 2 command ∙ mod-eq-of-lt fits) in
-      let nest : nestIn (payloadOf command fields) (lookup (payloadOf command fields) 2 0) ≡ regionOf fields = nest-there info-stands in
+      let nest : nestIn (payloadOf command fields) (lookup own (payloadOf command fields) 2 0) ≡ regionOf fields = nest-there info-stands in
       rw (whole, is-there type-stands, is-there info-stands, number, known, nest, encoded-whole fields encodable)

@@ -1,6 +1,7 @@
--- The entries that decoding admits under the terms of a device or a journal: what a table may hold. Written of an entry as it is stored, so
--- that it can be kept as an invariant; an admitted entry is the one that its own payload decodes to (proofs/RoundTrip.antt).
-use Prim.Native.Nat.{ℕ, _+_, _≤_, _<_, _^_}
+-- The entries that decoding admits for so many ports, of a device or of a journal of any version: what a table may hold. Written of an entry
+-- as it is stored, so that it can be kept as an invariant; an admitted entry is the one that its own payload decodes to (proofs/Flows.antt,
+-- proofs/Groups.antt).
+use Prim.Native.Nat.{ℕ, _≤_, _<_, _^_}
 use mathlib.Core.Bool.{Bool, true, false, _&&_}
 use mathlib.Core.Path.{_≡_}
 use mathlib.Core.List.{List, [], _∷_, _++_}
@@ -10,9 +11,9 @@ use Rattle.rules.specs.Choose.{choose}
 use Rattle.rules.specs.Limits.{maxPorts}
 use Rattle.rules.specs.GroupId.{groupType, groupLow, groupIdAllowed}
 use Rattle.rules.specs.Members.{elem, pad}
+use Rattle.rules.specs.Registers.{currentTerms}
 use Rattle.rules.specs.Decode.{matchAllowed, isTable}
 use Rattle.rules.specs.Tables.{Tables, flowEntry}
-use Rattle.rules.specs.declared.Terms.{Terms}
 use Rattle.rules.specs.declared.Match.{Match}
 use Rattle.rules.specs.declared.Match.the-variants.{IngressPort, Vlan, Bridging}
 use Rattle.rules.specs.declared.Flow.{Flow}
@@ -40,7 +41,7 @@ flowIn e =
 unfoldable pub hasNew : FlowEntry → Bool
 hasNew e = eqb (e .table) 10 && eqb (e .«vlan_id») 0
 
-pub record FlowAdmitted (terms : Terms) (e : FlowEntry) : Type 0 where
+pub record FlowAdmitted (ports : ℕ) (e : FlowEntry) : Type 0 where
   pub is-table : isTable (e .table) ≡ true
   -- nothing is lost in the bytes of a field
   pub cookie-fits : e .cookie < 2 ^ 64
@@ -60,7 +61,7 @@ pub record FlowAdmitted (terms : Terms) (e : FlowEntry) : Type 0 where
   pub no-mac : e .«has_mac» ≡ false → e .«dst_mac» ≡ 0
   pub no-group : e .«has_group» ≡ false → e .«group_id» ≡ 0
   -- the ranges of its table
-  pub allowed : matchAllowed terms (e .«goto_tbl») (hasNew e) (matchIn e) ≡ true
+  pub allowed : matchAllowed (currentTerms ports) (e .«goto_tbl») (hasNew e) (matchIn e) ≡ true
 
 -- ---- Groups
 
@@ -69,7 +70,7 @@ abbrev pub Fresh : List ℕ → List ℕ → Type 0
 Fresh before [] = Unit
 Fresh before (l ∷ ls) = (elem l before ≡ false) × Fresh (before ++ (l ∷ [])) ls
 
-pub record GroupAdmitted (terms : Terms) (e : GroupEntry) : Type 0 where
+pub record GroupAdmitted (ports : ℕ) (e : GroupEntry) : Type 0 where
   pub id-fits : e .id < 2 ^ 32
   pub id-allowed : groupIdAllowed (e .id) ≡ true
   -- its members' low bits, no two alike
@@ -80,7 +81,7 @@ pub record GroupAdmitted (terms : Terms) (e : GroupEntry) : Type 0 where
   pub fresh : Fresh [] lows
   pub at-most : length lows ≤ maxPorts
   -- type 0: no members, and a port that the device has, or 0
-  pub single : groupType (e .id) ≡ 0 → (lows ≡ []) × (groupLow (e .id) ≤ terms .ports)
+  pub single : groupType (e .id) ≡ 0 → (lows ≡ []) × (groupLow (e .id) ≤ ports)
   -- types 3 and 4
   pub many : (groupType (e .id) ≡ 0 → ⊥) → (1 ≤ length lows) × (e .«pop_vlan» ≡ false)
 
@@ -91,6 +92,6 @@ abbrev pub Each : {A : Type 0} → (A → Type 0) → List A → Type 0
 Each P [] = Unit
 Each P (e ∷ es) = P e × Each P es
 
-pub record Admitted (terms : Terms) (t : Tables) : Type 0 where
-  pub flows-are : Each (FlowAdmitted terms) (t .flows)
-  pub groups-are : Each (GroupAdmitted terms) (t .groups)
+pub record Admitted (ports : ℕ) (t : Tables) : Type 0 where
+  pub flows-are : Each (FlowAdmitted ports) (t .flows)
+  pub groups-are : Each (GroupAdmitted ports) (t .groups)

@@ -20,7 +20,7 @@ use Rattle.rules.specs.Region.{tlvs, wellFormed}
 use Rattle.rules.specs.Keyed.{insert, replace, remove}
 use Rattle.rules.specs.GroupId.{groupType, groupVlan, groupLow, vlanAllowed, groupIdAllowed}
 use Rattle.rules.specs.Members.{elem, memberRight, collect, membersIn, membersRight, pad}
-use Rattle.rules.specs.Decode.{newVlanFits, matchAllowed, matchOf, flowOf, flowUser, isTable, flowIn, flowKeyIn, groupOf, membersOf, groupAllowed, groupUser, groupIn, groupKeyIn, refused, carried, need, commandIn, commandInfo, decode}
+use Rattle.rules.specs.Decode.{headerOf, newVlanFits, matchAllowed, matchOf, flowOf, flowUser, isTable, flowIn, flowKeyIn, groupOf, membersOf, groupAllowed, groupUser, groupIn, groupKeyIn, refused, carried, need, commandIn, commandInfo, decode}
 use Rattle.rules.specs.Tables.{Tables, storedFlow, flowEntry, groupEntry, cookieOf, idOf, emptyTables, withFlows, withGroups, commandEffect, decodedStatus, decodedEffect, executed, carryOut, execute}
 use Rattle.rules.specs.declared.Terms.{Terms}
 use Rattle.rules.specs.declared.Tlv.{Tlv}
@@ -71,9 +71,9 @@ number-below s w Absent b = one-le-pow w 256 (lit< tt)
 number-below s w (At a n) b = leAt-below w s a b
 number-below s w Fault b = one-le-pow w 256 (lit< tt)
 
-value-below : (s : List ℕ) (t : ℕ) → AreBytes s → value s t < 256 ^ ruleOf t .width
+value-below : (h : ℕ) (s : List ℕ) (t : ℕ) → AreBytes s → value h s t < 256 ^ ruleOf t .width
 unfolding value
-value-below s t b = number-below s (ruleOf t .width) (field s t) b
+value-below h s t b = number-below s (ruleOf t .width) (field h s t) b
 
 number-missing : (s : List ℕ) (w : ℕ) (f : Found) → isAt f ≡ false → numberIn s w f ≡ 0
 unfolding numberIn isAt
@@ -82,9 +82,9 @@ number-missing s w (At a n) e = not-both e
 number-missing s w Fault e = refl
 
 -- what is not given reads 0
-value-missing : (s : List ℕ) (t : ℕ) → given s t ≡ false → value s t ≡ 0
+value-missing : (h : ℕ) (s : List ℕ) (t : ℕ) → given h s t ≡ false → value h s t ≡ 0
 unfolding value given
-value-missing s t e = number-missing s (ruleOf t .width) (field s t) e
+value-missing h s t e = number-missing s (ruleOf t .width) (field h s t) e
 
 swap-below : (v : ℕ) → swap16 v < 2 ^ 16
 unfolding swap16
@@ -106,29 +106,29 @@ MatchFits new (IngressPort p m) = (p < 2 ^ 32) × (m < 2 ^ 32)
 MatchFits new (Vlan p v n) = (p < 2 ^ 32) × (v < 2 ^ 16) × (n < 2 ^ 16) × (new ≡ false → n ≡ 0)
 MatchFits new (Bridging v hm m hg id) = (v < 2 ^ 16) × (m < 2 ^ 48) × (id < 2 ^ 32) × (hm ≡ false → m ≡ 0) × (hg ≡ false → id ≡ 0)
 
-common-fits : (s : List ℕ) (t : ℕ) → AreBytes s → CommonFits (flowOf s t)
+common-fits : (h : ℕ) (s : List ℕ) (t : ℕ) → AreBytes s → CommonFits (flowOf h s t)
 unfolding flowOf ruleOf ruleIn rows
-common-fits s t b =
+common-fits h s t b =
     record {
-      cookie-fits = value-below s 5 b;
-      priority-fits = value-below s 2 b;
-      hardtime-fits = value-below s 3 b;
-      idletime-fits = value-below s 4 b;
-      goto-fits = value-below s 9 b;
+      cookie-fits = value-below h s 5 b;
+      priority-fits = value-below h s 2 b;
+      hardtime-fits = value-below h s 3 b;
+      idletime-fits = value-below h s 4 b;
+      goto-fits = value-below h s 9 b;
     }
 
 swap-zero : (v : ℕ) → v ≡ 0 → swap16 v ≡ 0
 unfolding swap16
 swap-zero v e = omega arith
 
-match-fits : (s : List ℕ) (t : ℕ) → AreBytes s → MatchFits (given s 19) (matchOf s t)
+match-fits : (h : ℕ) (s : List ℕ) (t : ℕ) → AreBytes s → MatchFits (given h s 19) (matchOf h s t)
 unfolding matchOf ruleOf ruleIn rows
-match-fits s t b =
+match-fits h s t b =
     by-test (eqb t 0)
-    (λ p. rw p (value-below s 6 b, value-below s 7 b))
+    (λ p. rw p (value-below h s 6 b, value-below h s 7 b))
     (λ p. by-test (eqb t 10)
-    (λ q. rw (p, q) (value-below s 6 b, swap-below (value s 14), swap-below (value s 19), λ e. swap-zero (value s 19) (value-missing s 19 e)))
-    (λ q. rw (p, q) (swap-below (value s 14), value-below s 24 b, value-below s 10 b, value-missing s 24, value-missing s 10)))
+    (λ q. rw (p, q) (value-below h s 6 b, swap-below (value h s 14), swap-below (value h s 19), λ e. swap-zero (value h s 19) (value-missing h s 19 e)))
+    (λ q. rw (p, q) (swap-below (value h s 14), value-below h s 24 b, value-below h s 10 b, value-missing h s 24, value-missing h s 10)))
 
 -- NEW_VLAN_ID is there exactly if VLAN_ID is 0
 new-there : (v : ℕ) (new : Bool) (n : ℕ) → newVlanFits v new n ≡ true → new ≡ eqb v 0
@@ -139,7 +139,7 @@ new-there v new n e =
     (λ p. rw p (not-true new (and-left (not new) (vlanAllowed v) (simp p at e))))
 
 stored-admits : (terms : Terms) (f : Flow) (new : Bool) (m : Match) → CommonFits f → MatchFits new m
-    → matchAllowed terms (f .«goto_tbl») new m ≡ true → FlowAdmitted terms (storedFlow f m)
+    → matchAllowed terms (f .«goto_tbl») new m ≡ true → FlowAdmitted (terms .ports) (storedFlow f m)
 unfolding storedFlow flowEntry storedFrom matchIn hasNew isTable matchAllowed
 stored-admits terms f new (IngressPort p m) c h e =
     record {
@@ -245,10 +245,10 @@ collected s vlan before (x ∷ xs) e =
     (λ p. not-both (sym (simp p at e)))
 
 -- the members in GROUP_IDS, where decoding found them right
-members-fresh : (s : List ℕ) (vlan : ℕ) → membersIn s vlan .right ≡ true → Grown [] (membersIn s vlan .lows)
+members-fresh : (h : ℕ) (s : List ℕ) (vlan : ℕ) → membersIn h s vlan .right ≡ true → Grown [] (membersIn h s vlan .lows)
 unfolding membersIn
-members-fresh s vlan e =
-    by-test (wellFormed s) (λ p. rw p (collected s vlan [] (tlvs s 0) (simp p at e))) (λ p. not-both (sym (simp p at e)))
+members-fresh h s vlan e =
+    by-test (wellFormed h s) (λ p. rw p (collected s vlan [] (tlvs h s 0) (simp p at e))) (λ p. not-both (sym (simp p at e)))
 
 -- ---- Groups
 
@@ -256,9 +256,9 @@ abbrev entryOf : ℕ → Bool → ℕ → List ℕ → GroupEntry
 entryOf id pop count lows = record { id = id; «pop_vlan» = pop; «member_count» = count; members = pad lows }
 
 -- type 0
-single-admits : (terms : Terms) (id : ℕ) (pop : Bool) → id < 2 ^ 32 → groupIdAllowed id ≡ true → groupType id ≡ 0 → groupLow id ≤ terms .ports
-    → GroupAdmitted terms (entryOf id pop 0 [])
-single-admits terms id pop f a t l =
+single-admits : (ports id : ℕ) (pop : Bool) → id < 2 ^ 32 → groupIdAllowed id ≡ true → groupType id ≡ 0 → groupLow id ≤ ports
+    → GroupAdmitted ports (entryOf id pop 0 [])
+single-admits ports id pop f a t l =
     record {
       id-fits = f;
       id-allowed = a;
@@ -273,9 +273,9 @@ single-admits terms id pop f a t l =
     }
 
 -- types 3 and 4
-many-admits : (terms : Terms) (id count : ℕ) (lows : List ℕ) → id < 2 ^ 32 → groupIdAllowed id ≡ true → (groupType id ≡ 0 → ⊥) → Grown [] lows
-    → 1 ≤ count → count ≤ maxPorts → length lows ≡ count → GroupAdmitted terms (entryOf id false count lows)
-many-admits terms id count lows f a t g lo hi n =
+many-admits : (ports id count : ℕ) (lows : List ℕ) → id < 2 ^ 32 → groupIdAllowed id ≡ true → (groupType id ≡ 0 → ⊥) → Grown [] lows
+    → 1 ≤ count → count ≤ maxPorts → length lows ≡ count → GroupAdmitted ports (entryOf id false count lows)
+many-admits ports id count lows f a t g lo hi n =
     record {
       id-fits = f;
       id-allowed = a;
@@ -289,23 +289,24 @@ many-admits terms id count lows f a t g lo hi n =
       many = λ x. (omega arith, refl);
     }
 
-group-admits : (terms : Terms) (s : List ℕ) (id : ℕ) → id < 2 ^ 32 → groupAllowed terms s id (membersOf s id) ≡ true
-    → GroupAdmitted terms (groupEntry (groupOf s id) (pad (membersOf s id .lows)))
+group-admits : (terms : Terms) (s : List ℕ) (id : ℕ) → id < 2 ^ 32 → groupAllowed terms s id (membersOf (headerOf terms) s id) ≡ true
+    → GroupAdmitted (terms .ports) (groupEntry (groupOf (headerOf terms) s id) (pad (membersOf (headerOf terms) s id .lows)))
 unfolding groupEntry groupOf membersOf groupAllowed membersRight
 group-admits terms s id f e =
+    let h = headerOf terms in
     by-eq (groupType id) 0
     (λ t p.
     let x = simp p at e in
     let a = and-left (groupIdAllowed id) _ x in
-    let ranges = eqb (value s 8) (groupLow id) && leb (value s 8) (terms .ports) in
-    let b = and-left ranges (leb (value s 43) 1) (and-right (groupIdAllowed id) _ x) in
-    let same = eqb-true (value s 8) (groupLow id) (and-left _ (leb (value s 8) (terms .ports)) b) in
-    let low = leb-true (value s 8) (terms .ports) (and-right (eqb (value s 8) (groupLow id)) _ b) in
-    rw p (single-admits terms id (eqb (value s 43) 1) f a t (omega arith)))
+    let ranges = eqb (value h s 8) (groupLow id) && leb (value h s 8) (terms .ports) in
+    let b = and-left ranges (leb (value h s 43) 1) (and-right (groupIdAllowed id) _ x) in
+    let same = eqb-true (value h s 8) (groupLow id) (and-left _ (leb (value h s 8) (terms .ports)) b) in
+    let low = leb-true (value h s 8) (terms .ports) (and-right (eqb (value h s 8) (groupLow id)) _ b) in
+    rw p (single-admits (terms .ports) id (eqb (value h s 43) 1) f a t (omega arith)))
     (λ t p.
     let x = simp p at e in
-    let c = membersIn (nestIn s (field s 13)) (groupVlan id) in
-    let n = value s 12 in
+    let c = membersIn h (nestIn s (field h s 13)) (groupVlan id) in
+    let n = value h s 12 in
     let a = and-left (groupIdAllowed id) _ x in
     let b = and-right (groupIdAllowed id) (c .right && leb 1 n && leb n maxPorts && eqb (length (c .lows)) n) x in
     let same = eqb-true (length (c .lows)) n (and-right (c .right && leb 1 n && leb n maxPorts) _ b) in
@@ -313,18 +314,18 @@ group-admits terms s id f e =
     let hi = leb-true n maxPorts (and-right (c .right && leb 1 n) _ d) in
     let g = and-left (c .right && leb 1 n) (leb n maxPorts) d in
     rw p
-    (many-admits terms id n (c .lows) f a t (members-fresh (nestIn s (field s 13)) (groupVlan id) (and-left (c .right) (leb 1 n) g))
+    (many-admits (terms .ports) id n (c .lows) f a t (members-fresh h (nestIn s (field h s 13)) (groupVlan id) (and-left (c .right) (leb 1 n) g))
     (leb-true 1 n (and-right (c .right) (leb 1 n) g)) hi same))
 
 -- ---- Payloads
 
 -- what a command stores, with the members beside it, is admitted
 abbrev Stores : Terms → List ℕ → Command → Type 0
-Stores terms m (FlowAdd f) = FlowAdmitted terms (flowEntry f)
-Stores terms m (FlowMod f) = FlowAdmitted terms (flowEntry f)
+Stores terms m (FlowAdd f) = FlowAdmitted (terms .ports) (flowEntry f)
+Stores terms m (FlowMod f) = FlowAdmitted (terms .ports) (flowEntry f)
 Stores terms m (FlowDel k) = Unit
-Stores terms m (GroupAdd g) = GroupAdmitted terms (groupEntry g m)
-Stores terms m (GroupMod g) = GroupAdmitted terms (groupEntry g m)
+Stores terms m (GroupAdd g) = GroupAdmitted (terms .ports) (groupEntry g m)
+Stores terms m (GroupMod g) = GroupAdmitted (terms .ports) (groupEntry g m)
 Stores terms m (GroupDel k) = Unit
 
 abbrev StoresBy : Terms → List ℕ → Decoded → Type 0
@@ -340,31 +341,33 @@ need-gives terms true e d h = h refl
 need-gives terms false e d h = tt
 
 flow-gives : (terms : Terms) (s : List ℕ) (make : Flow → Command) → AreBytes s
-    → ((f : Flow) (m : List ℕ) → FlowAdmitted terms (flowEntry f) → Stores terms m (make f)) → Gives terms (flowIn terms s make)
+    → ((f : Flow) (m : List ℕ) → FlowAdmitted (terms .ports) (flowEntry f) → Stores terms m (make f)) → Gives terms (flowIn terms s make)
 unfolding flowIn carried flowEntry flowOf
-flow-gives terms s make b h =
-    let t = value s 1 in
-    let allowed = matchAllowed terms (value s 9) (given s 19) (matchOf s t) in
-    need-gives terms (given s 1) Einval _
+flow-gives terms s make b stores =
+    let h = headerOf terms in
+    let t = value h s 1 in
+    let allowed = matchAllowed terms (value h s 9) (given h s 19) (matchOf h s t) in
+    need-gives terms (given h s 1) Einval _
     (λ p. need-gives terms (isTable t) Enotsup _
-    (λ q. need-gives terms (fieldsRight s (flowUser t) && allowed) Einval _
-    (λ r. h (flowOf s t) (pad [])
-    (stored-admits terms (flowOf s t) (given s 19) (matchOf s t) (common-fits s t b) (match-fits s t b) (and-right (fieldsRight s (flowUser t)) allowed r)))))
+    (λ q. need-gives terms (fieldsRight h s (flowUser t) && allowed) Einval _
+    (λ r. stores (flowOf h s t) (pad [])
+    (stored-admits terms (flowOf h s t) (given h s 19) (matchOf h s t) (common-fits h s t b) (match-fits h s t b) (and-right (fieldsRight h s (flowUser t)) allowed r)))))
 
 group-gives : (terms : Terms) (s : List ℕ) (make : Group → Command) → AreBytes s
-    → ((g : Group) (m : List ℕ) → GroupAdmitted terms (groupEntry g m) → Stores terms m (make g)) → Gives terms (groupIn terms s make)
+    → ((g : Group) (m : List ℕ) → GroupAdmitted (terms .ports) (groupEntry g m) → Stores terms m (make g)) → Gives terms (groupIn terms s make)
 unfolding groupIn carried ruleOf ruleIn rows
-group-gives terms s make b h =
-    let id = value s 10 in
-    let allowed = groupAllowed terms s id (membersOf s id) in
-    need-gives terms (fieldsRight s (groupUser id) && allowed) Einval _
-    (λ p. h (groupOf s id) (pad (membersOf s id .lows)) (group-admits terms s id (value-below s 10 b) (and-right (fieldsRight s (groupUser id)) allowed p)))
+group-gives terms s make b stores =
+    let h = headerOf terms in
+    let id = value h s 10 in
+    let allowed = groupAllowed terms s id (membersOf h s id) in
+    need-gives terms (fieldsRight h s (groupUser id) && allowed) Einval _
+    (λ p. stores (groupOf h s id) (pad (membersOf h s id .lows)) (group-admits terms s id (value-below h s 10 b) (and-right (fieldsRight h s (groupUser id)) allowed p)))
 
-flow-key-gives : (terms : Terms) (s : List ℕ) → Gives terms (flowKeyIn s)
+flow-key-gives : (terms : Terms) (s : List ℕ) → Gives terms (flowKeyIn terms s)
 unfolding flowKeyIn carried
 flow-key-gives terms s = need-gives terms _ Einval _ (λ p. tt)
 
-group-key-gives : (terms : Terms) (s : List ℕ) → Gives terms (groupKeyIn s)
+group-key-gives : (terms : Terms) (s : List ℕ) → Gives terms (groupKeyIn terms s)
 unfolding groupKeyIn carried
 group-key-gives terms s = need-gives terms _ Einval _ (λ p. tt)
 
@@ -386,7 +389,7 @@ unfolding decode
 decode-gives terms s b =
     need-gives terms _ Einval _
     (λ p. need-gives terms _ Enotsup _
-    (λ q. need-gives terms _ Einval _ (λ r. command-gives terms _ (nestIn s (commandInfo s)) (bytes-nest s (commandInfo s) b))))
+    (λ q. need-gives terms _ Einval _ (λ r. command-gives terms _ _ (bytes-nest s (commandInfo (headerOf terms) s) b))))
 
 -- ---- Tables
 
@@ -414,32 +417,32 @@ module _ {A : Type 0} (key : A → ℕ) (P : A → Type 0) where
       (λ t. rw t (h .0, each-remove k gs (h .1)))
       (λ t. by-test (eqb (key g) k) (λ u. rw (t, u) (h .1)) (λ u. rw (t, u) h))
 
-effect-admits : (terms : Terms) (t : Tables) (c : Command) (m : List ℕ) → Admitted terms t → Stores terms m c → Admitted terms (commandEffect t c m)
+effect-admits : (terms : Terms) (t : Tables) (c : Command) (m : List ℕ) → Admitted (terms .ports) t → Stores terms m c → Admitted (terms .ports) (commandEffect t c m)
 unfolding commandEffect withFlows withGroups
 effect-admits terms t (FlowAdd f) m a s =
-    record { flows-are = each-insert cookieOf (FlowAdmitted terms) (flowEntry f) (t .flows) s (a .flows-are); groups-are = a .groups-are }
+    record { flows-are = each-insert cookieOf (FlowAdmitted (terms .ports)) (flowEntry f) (t .flows) s (a .flows-are); groups-are = a .groups-are }
 effect-admits terms t (FlowMod f) m a s =
-    record { flows-are = each-replace cookieOf (FlowAdmitted terms) (flowEntry f) (t .flows) s (a .flows-are); groups-are = a .groups-are }
+    record { flows-are = each-replace cookieOf (FlowAdmitted (terms .ports)) (flowEntry f) (t .flows) s (a .flows-are); groups-are = a .groups-are }
 effect-admits terms t (FlowDel k) m a s =
-    record { flows-are = each-remove cookieOf (FlowAdmitted terms) k (t .flows) (a .flows-are); groups-are = a .groups-are }
+    record { flows-are = each-remove cookieOf (FlowAdmitted (terms .ports)) k (t .flows) (a .flows-are); groups-are = a .groups-are }
 effect-admits terms t (GroupAdd g) m a s =
-    record { flows-are = a .flows-are; groups-are = each-insert idOf (GroupAdmitted terms) (groupEntry g m) (t .groups) s (a .groups-are) }
+    record { flows-are = a .flows-are; groups-are = each-insert idOf (GroupAdmitted (terms .ports)) (groupEntry g m) (t .groups) s (a .groups-are) }
 effect-admits terms t (GroupMod g) m a s =
-    record { flows-are = a .flows-are; groups-are = each-replace idOf (GroupAdmitted terms) (groupEntry g m) (t .groups) s (a .groups-are) }
+    record { flows-are = a .flows-are; groups-are = each-replace idOf (GroupAdmitted (terms .ports)) (groupEntry g m) (t .groups) s (a .groups-are) }
 effect-admits terms t (GroupDel k) m a s =
-    record { flows-are = a .flows-are; groups-are = each-remove idOf (GroupAdmitted terms) k (t .groups) (a .groups-are) }
+    record { flows-are = a .flows-are; groups-are = each-remove idOf (GroupAdmitted (terms .ports)) k (t .groups) (a .groups-are) }
 
-decoded-admits : (terms : Terms) (t : Tables) (w : Decoded) (m : List ℕ) → Admitted terms t → StoresBy terms m w → Admitted terms (decodedEffect t w m)
+decoded-admits : (terms : Terms) (t : Tables) (w : Decoded) (m : List ℕ) → Admitted (terms .ports) t → StoresBy terms m w → Admitted (terms .ports) (decodedEffect t w m)
 unfolding decodedEffect
 decoded-admits terms t (Carry c) m a s = effect-admits terms t c m a s
 decoded-admits terms t (Refused e) m a s = a
 
-pub empty-admits : (terms : Terms) → Admitted terms emptyTables
+pub empty-admits : (ports : ℕ) → Admitted ports emptyTables
 unfolding emptyTables
-empty-admits terms = record { flows-are = tt; groups-are = tt }
+empty-admits ports = record { flows-are = tt; groups-are = tt }
 
 -- THE LAW: every payload of bytes keeps admitted tables
-pub execute-admits : (terms : Terms) (payload : List ℕ) (t : Tables) → AreBytes payload → Admitted terms t → Admitted terms (execute terms payload t .tables)
+pub execute-admits : (terms : Terms) (payload : List ℕ) (t : Tables) → AreBytes payload → Admitted (terms .ports) t → Admitted (terms .ports) (execute terms payload t .tables)
 unfolding execute carryOut executed
 execute-admits terms payload t b a =
     let d = decode terms payload in

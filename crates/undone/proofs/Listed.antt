@@ -140,29 +140,29 @@ module _ (terms : Terms) {A : Type 0} (get : Tables → List A) (put : Tables �
 -- ---- The list
 
 module _ (terms : Terms)
-    (flow-add : (e : FlowEntry) → FlowAdmitted terms e → (t : Tables)
+    (flow-add : (e : FlowEntry) → FlowAdmitted (terms .ports) e → (t : Tables)
     → execute terms (flowPayload 3 e) t ≡ executed t (addStatus cookieOf maxFlows (e .cookie) (t .flows)) (withFlows t (insert cookieOf e (t .flows))))
-    (flow-mod : (e : FlowEntry) → FlowAdmitted terms e → (t : Tables)
+    (flow-mod : (e : FlowEntry) → FlowAdmitted (terms .ports) e → (t : Tables)
     → execute terms (flowPayload 4 e) t ≡ executed t (heldStatus cookieOf (e .cookie) (t .flows)) (withFlows t (replace cookieOf e (t .flows))))
-    (flow-del : (e : FlowEntry) → FlowAdmitted terms e → (t : Tables)
+    (flow-del : (e : FlowEntry) → FlowAdmitted (terms .ports) e → (t : Tables)
     → execute terms (flowPayload 5 e) t ≡ executed t (heldStatus cookieOf (e .cookie) (t .flows)) (withFlows t (remove cookieOf (e .cookie) (t .flows))))
-    (group-add : (e : GroupEntry) → GroupAdmitted terms e → (t : Tables)
+    (group-add : (e : GroupEntry) → GroupAdmitted (terms .ports) e → (t : Tables)
     → execute terms (groupPayload 7 e) t ≡ executed t (addStatus idOf maxGroups (e .id) (t .groups)) (withGroups t (insert idOf e (t .groups))))
-    (group-mod : (e : GroupEntry) → GroupAdmitted terms e → (t : Tables)
+    (group-mod : (e : GroupEntry) → GroupAdmitted (terms .ports) e → (t : Tables)
     → execute terms (groupPayload 8 e) t ≡ executed t (heldStatus idOf (e .id) (t .groups)) (withGroups t (replace idOf e (t .groups))))
-    (group-del : (e : GroupEntry) → GroupAdmitted terms e → (t : Tables)
+    (group-del : (e : GroupEntry) → GroupAdmitted (terms .ports) e → (t : Tables)
     → execute terms (groupPayload 9 e) t ≡ executed t (heldStatus idOf (e .id) (t .groups)) (withGroups t (remove idOf (e .id) (t .groups)))) where
   -- EVERY PAYLOAD COMPLETES OK, AND THE TABLES AFTER THEM ARE THE EARLIER ONES
-  pub gives-back : (earlier now : Tables) → Good earlier → Good now → Admitted terms earlier → Admitted terms now
+  pub gives-back : (earlier now : Tables) → Good earlier → Good now → Admitted (terms .ports) earlier → Admitted (terms .ports) now
       → AllOk terms (payloads earlier now) now × (carriedAll terms (payloads earlier now) now ≡ earlier)
   unfolding payloads flowRun groupRun withFlows withGroups
   gives-back earlier now ge gn ae an =
       let flows =
-      runs-lead terms (λ t. t .flows) withFlows (FlowAdmitted terms) cookieOf sameFlow maxFlows flowPayload 5 4 3 (now .flows) (earlier .flows)
+      runs-lead terms (λ t. t .flows) withFlows (FlowAdmitted (terms .ports)) cookieOf sameFlow maxFlows flowPayload 5 4 3 (now .flows) (earlier .flows)
       flows-part flow-del flow-mod flow-add
       (returned cookieOf sameFlow (now .flows) (earlier .flows) (gn .flows-rise) (ge .flows-rise) maxFlows same-flow (ge .flows-fit)) (an .flows-are) (ae .flows-are) in
       let groups =
-      runs-lead terms (λ t. t .groups) withGroups (GroupAdmitted terms) idOf sameGroup maxGroups groupPayload 9 8 7 (now .groups) (earlier .groups)
+      runs-lead terms (λ t. t .groups) withGroups (GroupAdmitted (terms .ports)) idOf sameGroup maxGroups groupPayload 9 8 7 (now .groups) (earlier .groups)
       groups-part group-del group-mod group-add
       (returned idOf sameGroup (now .groups) (earlier .groups) (gn .groups-rise) (ge .groups-rise) maxGroups same-group (ge .groups-fit)) (an .groups-are) (ae .groups-are) in
       leads-on terms _ _ _ _ _ (flows .dels-lead now refl)
@@ -185,17 +185,17 @@ run-short : {A : Type 0} (P : A → Type 0) (key : A → ℕ) (same : A → A �
 run-short P key same pay short there other l h =
     record { each = each-map P (λ p. length p ≤ maxPayload) pay short (picked key same there other l) (each-picked P key same there other l h) }
 
-module _ (terms : Terms) (flow-short : (c : ℕ) (e : FlowEntry) → length (flowPayload c e) ≤ maxPayload)
-    (group-short : (c : ℕ) (e : GroupEntry) → GroupAdmitted terms e → length (groupPayload c e) ≤ maxPayload) where
-  flows-short : (c : ℕ) (there : Bool) (other l : List FlowEntry) → Each (FlowAdmitted terms) l → Short (flowRun c there other l)
+module _ (ports : ℕ) (flow-short : (c : ℕ) (e : FlowEntry) → length (flowPayload c e) ≤ maxPayload)
+    (group-short : (c : ℕ) (e : GroupEntry) → GroupAdmitted ports e → length (groupPayload c e) ≤ maxPayload) where
+  flows-short : (c : ℕ) (there : Bool) (other l : List FlowEntry) → Each (FlowAdmitted ports) l → Short (flowRun c there other l)
   unfolding flowRun
-  flows-short c = run-short (FlowAdmitted terms) cookieOf sameFlow (flowPayload c) (λ e a. flow-short c e)
+  flows-short c = run-short (FlowAdmitted ports) cookieOf sameFlow (flowPayload c) (λ e a. flow-short c e)
 
-  groups-short : (c : ℕ) (there : Bool) (other l : List GroupEntry) → Each (GroupAdmitted terms) l → Short (groupRun c there other l)
+  groups-short : (c : ℕ) (there : Bool) (other l : List GroupEntry) → Each (GroupAdmitted ports) l → Short (groupRun c there other l)
   unfolding groupRun
-  groups-short c = run-short (GroupAdmitted terms) idOf sameGroup (groupPayload c) (group-short c)
+  groups-short c = run-short (GroupAdmitted ports) idOf sameGroup (groupPayload c) (group-short c)
 
-  pub all-short : (earlier now : Tables) → Admitted terms earlier → Admitted terms now → Each (λ p. length p ≤ maxPayload) (payloads earlier now)
+  pub all-short : (earlier now : Tables) → Admitted ports earlier → Admitted ports now → Each (λ p. length p ≤ maxPayload) (payloads earlier now)
   unfolding payloads
   all-short earlier now ae an =
       let all = short-on (flows-short 5 false (earlier .flows) (now .flows) (an .flows-are))

@@ -4,6 +4,7 @@ use mathlib.Core.Path.{_≡_}
 use mathlib.Core.List.{List, _++_}
 use lib.ListN.{length, take}
 use Rattle.rules.specs.Limits.{maxPayload}
+use Rattle.rules.specs.Registers.{currentTerms}
 use Rattle.rules.specs.Journal.{Progress, replay}
 use Rattle.rules.specs.Journal.Replayed.{Replays}
 use Rattle.rules.specs.Undo.{Undone, firstRecords, payloads, listed, undo, writtenUndo}
@@ -22,19 +23,22 @@ pub record GivesBack (journal : List ℕ) (n : ℕ) (now : Progress) : Type 0 wh
       → undo journal n room ≡ writtenUndo (payloads (earlier .tables) (now .tables)) room
   pub reads-back : takenFrom (length (payloads (earlier .tables) (now .tables))) (listed (payloads (earlier .tables) (now .tables)))
       ≡ payloads (earlier .tables) (now .tables)
-  -- "carried out after the whole trail", each payload "must complete OK", and gives "back the tables"
-  pub all-ok : AllOk (now .terms) (payloads (earlier .tables) (now .tables)) (now .tables)
-  pub gives-back : carriedAll (now .terms) (payloads (earlier .tables) (now .tables)) (now .tables) ≡ earlier .tables
+  -- "carried out after the whole trail", by a device with its ports, whose length meaning is that of the list whatever the journal's
+  -- is, each payload "must complete OK", and gives "back the tables"
+  pub all-ok : AllOk (currentTerms (now .terms .ports)) (payloads (earlier .tables) (now .tables)) (now .tables)
+  pub gives-back : carriedAll (currentTerms (now .terms .ports)) (payloads (earlier .tables) (now .tables)) (now .tables) ≡ earlier .tables
   -- each is one that a slot can hold
   pub short : Each (λ p. length p ≤ maxPayload) (payloads (earlier .tables) (now .tables))
-  -- "ordinary commands, charged and in the trail", whatever slots they were posted in
-  pub in-the-trail : (slots : List ℕ)
-      → replay (journal ++ written (okRecords (payloads (earlier .tables) (now .tables)) slots))
+  -- "ordinary commands, charged and in the trail" of such a device whose tables are those of now, whatever slots they were posted in.
+  -- A journal of the device's version is such a trail itself
+  pub in-the-trail : (trail : List ℕ) (p : Progress) (slots : List ℕ)
+      → replay trail ≡ Replays p → p .terms ≡ currentTerms (now .terms .ports) → p .tables ≡ now .tables
+      → replay (trail ++ written (okRecords (payloads (earlier .tables) (now .tables)) slots))
       ≡ Replays
       (record {
-        terms = now .terms;
-        records = now .records + length (payloads (earlier .tables) (now .tables));
-        charged = now .charged + length (payloads (earlier .tables) (now .tables));
+        terms = p .terms;
+        records = p .records + length (payloads (earlier .tables) (now .tables));
+        charged = p .charged + length (payloads (earlier .tables) (now .tables));
         tables = earlier .tables;
       })
 
