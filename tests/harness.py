@@ -84,6 +84,18 @@ def run(words, source=b""):
     return Ran(done.returncode, done.stdout, done.stderr)
 
 
+# ---- Journals
+
+def header(ports):
+    """The header of a device's own journal."""
+    return b"RKT\2\0" + bytes([ports])
+
+
+def version(journal):
+    """The number in a journal's header; None where it is cut."""
+    return int.from_bytes(journal[3:5], "little") if len(journal) >= 6 else None
+
+
 # ---- Scripts and their outcomes
 
 def lines_of(data):
@@ -110,7 +122,7 @@ def named_lines(err):
 
 # ---- What is stored beside the programs that check it
 
-STORED_SCRIPTS = ("console", "payloads_run", "frames_run", "incident_run", "worked_run", "night_run")
+STORED_SCRIPTS = ("console", "payloads_run", "frames_run", "incident_run", "worked_run", "night_run", "drivers_run")
 STORED_REGISTERS = "registers_run"
 STORED_JOURNALS = "replay_run"
 STORED_QUESTIONS = "undo_run"

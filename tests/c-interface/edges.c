@@ -58,7 +58,7 @@ int main(void)
     CHECK(memcmp(d, &was, sizeof was) == 0);
     CHECK(call(ROCKER_LINK, 62, 1) == 0 && gives(0, 0) && reads(0x310, 8) == (uint64_t)1 << 62);
     CHECK(call(ROCKER_READ, 0x320, 8) == 0 && gives(7, 0));
-    CHECK(call(ROCKER_HEADER, 0, 0) == 0 && gives(0, 6) && memcmp(buffer, "RKT\1\0\76", 6) == 0);
+    CHECK(call(ROCKER_HEADER, 0, 0) == 0 && gives(0, 6) && memcmp(buffer, "RKT\2\0\76", 6) == 0);
 
     /* The same by the calls' names. */
     was = *d;

@@ -21,7 +21,7 @@ enum { BASE_ADDR = 0x1000, SIZE = 0x1008, HEAD = 0x100c, CREDITS = 0x1018, CONTR
 enum { FLOW_ADD = 3, FLOW_MOD = 4, FLOW_DEL = 5, GROUP_ADD = 7, GROUP_MOD = 8, GROUP_DEL = 9 };
 enum { VLAN = 5, RING = 512, PLACE = 0x8000, MEMORY = 0x10000, LONGEST = 4096 };
 
-/* ---- Payloads: TLVs one after the other */
+/* ---- Payloads: TLVs one after the other; a TLV's length counts its header, 8 bytes, and the value */
 
 struct payload {
     size_t length;
@@ -41,7 +41,7 @@ static inline void tlv(struct payload *p, uint32_t type, const void *value, size
     CHECK(p->length + 8 + filled <= sizeof p->bytes);
     memset(at, 0, 8 + filled);
     little(at, type, 4);
-    little(at + 4, length, 2);
+    little(at + 4, 8 + length, 2);
     memcpy(at + 8, value, length);
     p->length += 8 + filled;
 }

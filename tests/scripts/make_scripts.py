@@ -5,14 +5,15 @@ NAME is payloads_run, frames_run or incident_run; or edges or credits, the first
 worked_run is worked.py's. The outcomes, crates/NAME/stdout, come from the second implementation of the device and never from these
 programs: tests/scripts/store writes all of them.
 """
+import pathlib
 import struct
 import sys
 
+sys.dont_write_bytecode = True
+sys.path.append(str(pathlib.Path(__file__).resolve().parents[1]))
+from tlvs import HEADER, tlv, with_length
+
 PORTS = 8
-
-
-def tlv(kind, value):
-    return struct.pack("<IHH", kind, len(value), 0) + value + bytes(-len(value) % 8)
 
 
 def le16(n):
@@ -31,12 +32,12 @@ def be16(n):
     return struct.pack(">H", n)
 
 
-def payload(command, fields):
-    return tlv(1, le16(command)) + tlv(2, b"".join(fields))
+def payload(command, fields, header=HEADER):
+    return tlv(1, le16(command), header) + tlv(2, b"".join(fields), header)
 
 
-def members(ids):
-    return b"".join(tlv(k + 1, le32(n)) for k, n in enumerate(ids))
+def members(ids, header=HEADER):
+    return b"".join(tlv(k + 1, le32(n), header) for k, n in enumerate(ids))
 
 
 def group_id(kind, vlan, low):
@@ -70,13 +71,13 @@ def interface(vid, port, pop=0):
     return {8: le32(port), 10: le32(group_id(0, vid, port)), 43: bytes([pop])}
 
 
-def several(kind, vid, index, ports):
+def several(kind, vid, index, ports, header=HEADER):
     ids = [group_id(0, vid, p) for p in ports]
-    return {10: le32(group_id(kind, vid, index)), 12: le16(len(ids)), 13: members(ids)}
+    return {10: le32(group_id(kind, vid, index)), 12: le16(len(ids)), 13: members(ids, header)}
 
 
-def listed(fields):
-    return [tlv(kind, value) for kind, value in fields.items()]
+def listed(fields, header=HEADER):
+    return [tlv(kind, value, header) for kind, value in fields.items()]
 
 
 class Script:
@@ -145,8 +146,11 @@ def top_faults(s):
     s.run(payload(7, good))
     s.note("Top faults: nothing at all, a cut TLV, fill missing, CMD_TYPE and CMD_INFO missing, twice, of another width.")
     for data in [b"", kind, info, kind + kind + info, kind + info + info, tlv(1, le32(7)) + info, tlv(1, b"\7") + info,
-                 (kind + info)[:-8], kind + info + bytes(4), kind + info + bytes(8), kind + info + le32(99) + le16(1) + bytes(2)]:
+                 (kind + info)[:-8], kind + info + bytes(4), kind + info + with_length(99, 9)]:
         s.run(data)
+    s.note("A TLV of type 0 without value is skipped (EEXIST); with length 0 it is ill formed.")
+    s.run(kind + info + tlv(0, b""))
+    s.run(kind + info + bytes(8))
     s.note("A TLV of type 99 and a filled CMD_TYPE are skipped or ignored; CMD_INFO may come first.")
     s.run(tlv(99, b"abc") + info + tlv(1, le16(8)) + tlv(99, b""))
     s.note("Unknown commands, also with an ill-formed nest; then an ill-formed nest of a known one.")
@@ -248,6 +252,59 @@ def member_payloads(s):
     s.command(7, several(4, 300, 2, [1, 0xFFFF, 63]))
 
 
+def length_payloads(s):
+    s.note("A length counts the header: under 8 is ill formed. Type 99 at the top, 16 bytes of it, with lengths 0 to 17: 9 to 16 are OK.")
+    good = interface(500, 1)
+    nest = b"".join(listed(good))
+    s.command(7, good)
+    for length in range(18):
+        s.run(payload(8, [nest]) + with_length(99, length, bytes(8)))
+    s.note("The same without value, 8 bytes of it: 8 alone is OK. Then both in CMD_INFO, before and behind the fields.")
+    for length in range(10):
+        s.run(payload(8, [nest]) + with_length(99, length))
+    for length in (0, 7, 8, 9, 16, 17):
+        for value in (b"", bytes(8)):
+            s.run(payload(8, [with_length(99, length, value), nest]))
+            s.run(payload(8, [nest, with_length(99, length, value)]))
+    s.note("CMD_TYPE and CMD_INFO with other lengths than 10 and 56, then each field of the nest with other lengths than its own.")
+    for length in (0, 2, 7, 8, 9, 11, 16, 17, 65535):
+        s.run(with_length(1, length, le16(8)) + tlv(2, nest))
+    for length in (0, 7, 8, 48, 55, 57, 64, 65535):
+        s.run(tlv(1, le16(8)) + with_length(2, length, nest))
+    for kind, value in good.items():
+        rest = [tlv(k, v) for k, v in good.items() if k != kind]
+        for length in (0, len(value), 7, 8, 8 + len(value), 9 + len(value), 65535):
+            s.run(payload(8, [*rest, with_length(kind, length, value)]))
+
+
+def member_lengths(s):
+    s.note("A member's length: 12 alone is OK. GROUP_IDS' own: 40 alone. A third TLV behind two members, of length 8 and of 0.")
+    flood = several(4, 500, 1, [1, 2])
+    s.command(7, flood)
+    one, two = le32(group_id(0, 500, 1)), le32(group_id(0, 500, 2))
+    for length in (0, 4, 7, 8, 9, 11, 12, 13, 16):
+        s.command(8, flood | {13: tlv(1, one) + with_length(2, length, two)})
+        s.command(8, flood | {13: with_length(1, length, one) + tlv(2, two)})
+    for length in (0, 7, 8, 24, 32, 39, 40, 41, 65535):
+        s.run(payload(8, [tlv(10, flood[10]), tlv(12, flood[12]), with_length(13, length, flood[13])]))
+    for length in (0, 8):
+        s.command(8, flood | {13: flood[13] + with_length(3, length)})
+    s.note("A nest that is not used is not walked: such a GROUP_IDS in a group of type 0, in a flow and in a del.")
+    spoiled = tlv(13, with_length(1, 0))
+    for command, fields in [(8, interface(500, 1)), (3, ingress(500)), (5, {5: le64(500)})]:
+        s.run(payload(command, [*listed(fields), spoiled]))
+
+
+def old_lengths(s):
+    good = interface(500, 1)
+    s.note("Commands in the old meaning, where a length counts the value alone, are ill formed; so is each with one such length.")
+    for command, fields in [(8, good), (8, several(4, 500, 1, [1, 2], 0)), (3, ingress(501)), (5, {5: le64(500)}), (9, {10: good[10]})]:
+        s.run(payload(command, listed(fields, 0), 0))
+    for header in [(0, 8, 8), (8, 0, 8), (8, 8, 0)]:
+        s.run(tlv(1, le16(8), header[0]) + tlv(2, b"".join(listed(good, header[2])), header[1]))
+    s.command(8, several(4, 500, 1, [1, 2], 0))
+
+
 def descriptor_faults(s):
     s.note("Descriptor faults: BUF_ADDR 4 off, its end beyond memory and far beyond, TLV_SIZE over BUF_SIZE, over 4,096.")
     data = payload(7, listed(interface(400, 1)))
@@ -296,7 +353,8 @@ def full_tables(s):
 def payloads_run():
     s = Script()
     s.note("Payloads through the ring: a record's first two bytes are 0x8000 and the status.")
-    for block in [top_faults, flow_payloads, flow_values, group_payloads, member_payloads, descriptor_faults, full_tables]:
+    for block in [top_faults, flow_payloads, flow_values, group_payloads, member_payloads, length_payloads, member_lengths, old_lengths,
+                  descriptor_faults, full_tables]:
         block(s)
     s.add("read 4 0x1018", "read 4 0x1010", "header 6")
     return s

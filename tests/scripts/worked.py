@@ -1,12 +1,13 @@
 #!/usr/bin/env python3
-"""Writes the script of worked_run: worked examples of document 01, each behind a comment that says what it shows. They are chosen so that
-a reader who takes one sentence in another sense gets another outcome (tests/misreadings). worked.py > crates/worked_run/stdin; the
-outcomes come from tests/model (tests/scripts/store)."""
+"""Writes the script of worked_run: worked examples of document 01 and of request 2026-02, each behind a comment that says what it shows. They
+are chosen so that a reader who takes one sentence in another sense gets another outcome (tests/misreadings). worked.py >
+crates/worked_run/stdin; the outcomes come from tests/model (tests/scripts/store)."""
 import sys
 
 sys.dont_write_bytecode = True
 import make_scripts
-from make_scripts import Script, be16, bridge, group_id, ingress, interface, le16, le32, le64, listed, payload, send, several, tlv, vlan
+from make_scripts import (Script, be16, bridge, group_id, ingress, interface, le16, le32, le64, listed, payload, send, several, tlv, vlan,
+                          with_length)
 
 MEMORY, PORTS = 0x4000, 4
 ALL = 0xFFFFFFFF
@@ -72,21 +73,92 @@ def the_table(s):
     s.add("write 8 0x1008 3", "write 8 0x1008 8", "write 2 0x1008 3")
 
 
+def change(kind, info, group, port, pop):
+    """The payload of document 01, with these lengths."""
+    nest = with_length(10, group, le32(0x00050002)) + with_length(8, port, le32(2)) + with_length(43, pop, b"\1")
+    return with_length(1, kind, le16(7)) + with_length(2, info, nest)
+
+
+NEW, OLD = (0x0A, 0x38, 0x0C, 0x0C, 0x09), (0x02, 0x30, 0x04, 0x04, 0x01)  # its lengths in request 2026-02 and in document 01
+
+
 def the_payload(s):
+    s.fresh()
+    s.note("The payload of document 01 with the lengths of document 01, and with each of them alone: EINVAL, nothing is added.")
+    s.run(change(*OLD))
+    for k in range(5):
+        s.run(change(*NEW[:k], OLD[k], *NEW[k + 1:]))
+    s.note("P12, P13: with those of request 2026-02, OK and then EEXIST; the descriptor's stamp. P14: EINVAL on a device of one port.")
+    s.ring(0, 8)
+    for _ in range(2):
+        s.run(change(*NEW))
+    s.add("peek 0 64")
+    s.fresh(1)
+    s.run(change(*NEW))
+    s.note("P10: behind its fields a region may have a TLV of type 99 and length 8. P11: 4 bytes more, and it is ill formed; so it is with")
+    s.note("length 0, 4 and 7 in the place of 8.")
+    s.fresh()
+    nest = b"".join(listed(interface(5, 2, 1)))
+    for more in (tlv(99, b""), tlv(99, b"") + bytes(4), *[with_length(99, length) for length in (0, 4, 7)]):
+        s.run(tlv(1, le16(7)) + tlv(2, nest + more))
+        s.run(tlv(1, le16(8)) + tlv(2, nest) + more)
+
+
+def the_lengths(s):
     good = interface(5, 2, 1)
     nest = b"".join(listed(good))
     s.fresh()
-    s.note("P12, P13: the payload of document 01, OK and then EEXIST; the descriptor's stamp. P14: EINVAL on a device of one port.")
-    for _ in range(2):
-        s.tlvs(7, *listed(good))
-    s.add("peek 0 64")
-    s.fresh(1)
     s.tlvs(7, *listed(good))
-    s.note("P10: behind its fields a region may have a TLV of type 99 without value. P11: 4 bytes more, and it is ill formed.")
-    s.fresh()
-    for more in (tlv(99, b""), tlv(99, b"") + bytes(4)):
-        s.run(tlv(1, le16(7)) + tlv(2, nest + more))
+    s.note("A TLV of 16 bytes whose type is not listed, with lengths 0, 7, 8, 9, 16, 17 and 65,535, at the top and in CMD_INFO: 9 and 16 are")
+    s.note("its own. Of length 8 it would end before its last 8 bytes, and these have length 0.")
+    for length in (0, 7, 8, 9, 16, 17, 65535):
+        more = with_length(99, length, b"\1")
+        s.run(more + tlv(1, le16(8)) + tlv(2, nest))
         s.run(tlv(1, le16(8)) + tlv(2, nest) + more)
+        s.tlvs(8, nest, more)
+    s.note("Of length 8 it ends before the next TLV; so it does in front of CMD_TYPE, and of the fields.")
+    s.run(tlv(99, b"") + tlv(1, le16(8)) + tlv(99, b"") + tlv(2, tlv(99, b"") + nest + tlv(98, b"")))
+    s.note("CMD_TYPE of lengths 0, 7, 8 and 9, with and without 8 bytes behind it; then POP_VLAN, which has 9.")
+    for length in (0, 7, 8, 9):
+        s.run(with_length(1, length, le16(8)) + tlv(2, nest))
+        s.run(with_length(1, length) + tlv(2, nest))
+    for length in (0, 1, 7, 8, 9, 10):
+        s.tlvs(8, *listed(good)[:-1], with_length(43, length, b"\1"))
+    s.tlvs(8, *listed(good)[:-1], tlv(43, b""))
+    s.note("A whole TLV takes a multiple of 8 bytes, as its value does: lengths 15, 16 and 17 of type 99, with values of 7, 8 and 9 bytes.")
+    for length in (15, 16, 17):
+        s.tlvs(8, tlv(99, b"\1" * (length - 8)), nest)
+    s.note("What stands behind the end of a region counts for nothing: two bytes of fill do not complete a header in CMD_INFO.")
+    s.tlvs(8, nest, le32(99) + le16(8))
+    s.tlvs(8, nest, le32(99) + le16(0))
+
+
+def the_length_faults(s):
+    s.fresh()
+    s.tlvs(7, *listed(several(4, 5, 1, [1, 2])))
+    s.note("Where a length under 8 stands in the order of faults: at the top before the command is looked at, in CMD_INFO after it and before")
+    s.note("the table; of length 8 each is ENOTSUP.")
+    for length in (7, 8):
+        s.run(payload(6, []) + with_length(99, length))
+        s.tlvs(6, with_length(99, length))
+        s.tlvs(3, tlv(1, le16(20)), with_length(99, length))
+    s.note("Members: the second of lengths 0, 4, 7, 8, 9 and 12, in an add of a group that is there and a mod of one that is not. Only 12 comes")
+    s.note("as far as EEXIST and ENOENT.")
+    one, two = le32(group_id(0, 5, 1)), le32(group_id(0, 5, 2))
+    for length in (0, 4, 7, 8, 9, 12):
+        nest = tlv(1, one) + with_length(2, length, two)
+        s.tlvs(7, tlv(10, le32(group_id(4, 5, 1))), tlv(12, le16(2)), tlv(13, nest))
+        s.tlvs(8, tlv(10, le32(group_id(4, 5, 2))), tlv(12, le16(2)), tlv(13, nest))
+    s.note("No TLV of GROUP_IDS is skipped, one of length 8 neither; nor does one of length 0 end the list.")
+    for length in (0, 8):
+        s.tlvs(8, tlv(10, le32(group_id(4, 5, 1))), tlv(12, le16(2)), tlv(13, tlv(1, one) + tlv(2, two) + with_length(3, length)))
+    s.note("Members in the old meaning, in a payload of the new one: EINVAL. A GROUP_IDS that is not used is not walked: type 0, flow, del.")
+    s.tlvs(8, *listed(several(4, 5, 1, [1, 2], 0)))
+    spoiled = tlv(13, with_length(1, 0))
+    s.tlvs(7, *listed(interface(5, 1)), spoiled)
+    s.tlvs(3, *listed(ingress(5)), spoiled)
+    s.tlvs(5, tlv(5, le64(5)), spoiled)
+    s.tlvs(9, tlv(10, one), spoiled)
 
 
 def the_registers(s):
@@ -178,12 +250,12 @@ def the_regions(s):
     for first, second in ((1, 0x10002), (0x10001, 2)):
         s.tlvs(7, tlv(10, le32(group_id(3, 5, 1))), tlv(12, le16(2)), tlv(13, tlv(first, le32(0x50001)) + tlv(second, le32(0x50002))))
     s.note("Pad and fill may be anything; a length that goes over the end, or fill that is missing, is ill formed.")
-    noisy = b"".join(le32(k) + le16(len(v)) + b"\xff\xff" + v + b"\xee" * (-len(v) % 8) for k, v in good.items())
-    s.run(le32(1) + le16(2) + b"\xaa\xbb" + le16(8) + b"\xcc" * 6 + tlv(2, noisy))
+    noisy = b"".join(le32(k) + le16(8 + len(v)) + b"\xff\xff" + v + b"\xee" * (-len(v) % 8) for k, v in good.items())
+    s.run(le32(1) + le16(10) + b"\xaa\xbb" + le16(8) + b"\xcc" * 6 + tlv(2, noisy))
     s.run(kind[:10] + b"\xcc" * 6 + info)
     s.run(kind + tlv(2, noisy[:-7]))
-    s.run(kind + tlv(2, noisy + le32(99) + le16(1) + bytes(2)))
-    s.run(kind + tlv(2, nest + le32(99) + le16(8) + bytes(2) + bytes(8)))
+    s.run(kind + tlv(2, noisy + with_length(99, 9)))
+    s.run(kind + tlv(2, nest + with_length(99, 16, bytes(8))))
     s.note("CMD_INFO may come first. Twice, even if equal, is EINVAL; so is an unknown command without CMD_INFO, or with two of them.")
     s.run(info + kind)
     s.run(tlv(99, b"") + info + tlv(99, b"") + kind)
@@ -282,6 +354,11 @@ def the_used(s):
         s.tlvs(9, tlv(10, value))
     s.tlvs(9, tlv(10, le32(group_id(0, 9, 99))))
     s.tlvs(9, tlv(10, name))
+    s.note("A group that is deleted leaves the flows that name it: the flow can be deleted after it.")
+    s.tlvs(7, *listed(interface(9, 2)))
+    s.tlvs(3, *listed(bridge(74, vid=9, mac="020000000001", group=group_id(0, 9, 2))))
+    s.tlvs(9, tlv(10, name))
+    s.tlvs(5, tlv(5, le64(74)))
 
 
 def the_values(s):
@@ -449,7 +526,8 @@ def the_flows(s):
 
 if __name__ == "__main__":
     script = Worked()
-    for part in (the_table, the_payload, the_registers, the_slot, the_regions, the_unused, the_used, the_values, the_frame, the_flows):
+    for part in (the_table, the_payload, the_lengths, the_length_faults, the_registers, the_slot, the_regions, the_unused, the_used, the_values,
+                 the_frame, the_flows):
         part(script)
-    print("# Worked examples of document 01 (tests/scripts/worked.py). A record begins with 0x8000 plus the status.")
+    print("# Worked examples of document 01 and request 2026-02 (tests/scripts/worked.py). A record begins with 0x8000 plus the status.")
     print("\n".join(script.lines))

@@ -2,19 +2,25 @@
 """tests/undo/cases.py MODEL: writes the stored questions of request 2026-06 (crates/undo_run/stdin) and their outcomes (stdout beside it).
 The outcomes come from the second implementation; each case has its list written out by hand, too, and the two must agree.
 
-A question is n (8 bytes), the room's length (4), the journal's length (4) and the journal, as `model undo-all` reads them."""
+A question is n (8 bytes), the room's length (4), the journal's length (4) and the journal, as `model undo-all` reads them. A payload is its
+TLVs as (type, value); its bytes are those of the journal's version, and in a list those of the device (version 2)."""
 import pathlib
 import struct
 import subprocess
 import sys
 
-STORED = pathlib.Path(__file__).resolve().parents[2] / "crates/undo_run"
+sys.dont_write_bytecode = True
+ROOT = pathlib.Path(__file__).resolve().parents[2]
+sys.path.append(str(ROOT / "tests"))
+from tlvs import in_two_meanings, of_version, region
+
+STORED = ROOT / "crates/undo_run"
 OK, ENOENT, ENXIO, ENOMEM, EEXIST, EINVAL, EMSGSIZE, ENOTSUP = 0, 2, 6, 12, 17, 22, 90, 95
 ADD, MOD = 0, 1
 KEPT = 0xA5  # each byte of a room before the call
 
 
-# ---- Payloads, as document 01 has them
+# ---- Payloads
 
 def le(width, number):
     return number.to_bytes(width, "little")
@@ -24,14 +30,9 @@ def be(width, number):
     return number.to_bytes(width, "big")
 
 
-def tlv(kind, value):
-    return struct.pack("<IHH", kind, len(value), 0) + value + bytes(-len(value) % 8)
-
-
 def payload(code, fields):
     """Fields as (type, value), None for one that is not there; in rising type."""
-    nest = b"".join(tlv(kind, value) for kind, value in sorted(fields) if value is not None)
-    return tlv(1, le(2, code)) + tlv(2, nest)
+    return [(1, le(2, code)), (2, [(kind, value) for kind, value in sorted(fields) if value is not None])]
 
 
 def or_none(width, number):
@@ -69,7 +70,7 @@ def port_group(action, vlan, port, pop=0):
 
 
 def list_group(action, kind, vlan, index, ports):
-    members = b"".join(tlv(k, le(4, gid(0, vlan, port))) for k, port in enumerate(ports, 1))
+    members = [(k, le(4, gid(0, vlan, port))) for k, port in enumerate(ports, 1)]
     return payload(7 + action, [(10, le(4, gid(kind, vlan, index))), (12, le(2, len(ports))), (13, members)])
 
 
@@ -79,18 +80,20 @@ def group_del(kind, vlan, low):
 
 # ---- Journals
 
-def record(status, body=b"", slot=0):
-    return struct.pack("<HHH", 0x8000 | status, len(body), slot) + body
+def record(status, body, slot, version):
+    data = of_version(body, version)
+    return struct.pack("<HHH", 0x8000 | status, len(data), slot) + data
 
 
-def journal(*bodies, ports=4):
+def journal(*bodies, ports=4, version=2):
     """Records that are OK where a payload stands alone; others are (status, payload)."""
     pairs = [body if isinstance(body, tuple) else (OK, body) for body in bodies]
-    return b"RKT\1\0" + bytes([ports]) + b"".join(record(status, body, k % 8) for k, (status, body) in enumerate(pairs))
+    header = b"RKT" + le(2, version) + bytes([ports])
+    return header + b"".join(record(status, body, k % 8, version) for k, (status, body) in enumerate(pairs))
 
 
 def as_list(payloads):
-    return b"".join(le(2, len(one)) + one for one in payloads)
+    return b"".join(le(2, len(one)) + one for one in map(region, payloads))
 
 
 # ---- The cases
@@ -102,6 +105,12 @@ def case(name, trail, n, expected, room=None):
     if room is None:
         room = 5 if isinstance(expected, str) else len(as_list(expected)) + 5
     CASES.append((name, trail, n, room, expected))
+
+
+def in_both(name, bodies, n, expected, **rest):
+    """The same records in a journal of either version: one list."""
+    case(name, journal(*bodies, **rest), n, expected)
+    case(f"{name}, version 1", journal(*bodies, version=1, **rest), n, expected)
 
 
 EXAMPLE = port_group(ADD, 5, 2, pop=1)  # the payload of document 01
@@ -134,8 +143,8 @@ def refusals():
     twice = journal(flow0(ADD, 1), flow0(ADD, 1))
     for what, trail, told in (("cut header", good[:5], "refused 10 line 0"),
                               ("mark", b"RKX" + good[3:], "refused 11 line 0"),
-                              ("version", b"RKT\2" + good[4:], "refused 12 line 0"),
-                              ("port count", b"RKT\1\0\0" + good[6:], "refused 13 line 0"),
+                              ("version", b"RKT\3" + good[4:], "refused 12 line 0"),
+                              ("port count", b"RKT\2\0\0" + good[6:], "refused 13 line 0"),
                               ("disagrees in line 2", twice, "refused 14 line 2"),
                               ("cut in line 2", good[:-1], "refused 10 line 2"),
                               ("cut behind line 2", good + b"\0", "refused 10 line 3")):
@@ -168,7 +177,7 @@ def order():
     back = [flow_del(15), flow_del(35), group_del(0, 5, 1), group_del(0, 5, 3),
             flow10(MOD, 20, priority=2), flow0(MOD, 40, port=2), port_group(MOD, 5, 2), list_group(MOD, 4, 5, 1, [1]),
             flow0(ADD, 10, port=3), flow0(ADD, 30, priority=1), port_group(ADD, 5, 4), list_group(ADD, 3, 5, 1, [1])]
-    case("six runs", journal(*evening, *night), len(evening), back)
+    in_both("six runs", [*evening, *night], len(evening), back)
     # Cookies whose order is another one by sign, by halves, by bytes, by table, by priority and as they were added.
     cookies = [2**63, 0x100, 2**64 - 1, 2, 2**32, 0x201]
     adds = [flow0(ADD, cookies[0], priority=3), flow50(ADD, cookies[1], priority=9), flow0(ADD, cookies[2]), flow10(ADD, cookies[3]),
@@ -242,8 +251,8 @@ def zeros():
 def edges():
     """The longest payload, and tables that are full on both sides."""
     ports = [62, *range(1, 62)]
-    case("62 members", journal(list_group(ADD, 4, 4094, 0xFFFF, ports), group_del(4, 4094, 0xFFFF), ports=62), 1,
-         [list_group(ADD, 4, 4094, 0xFFFF, ports)])
+    in_both("62 members", [list_group(ADD, 4, 4094, 0xFFFF, ports), group_del(4, 4094, 0xFFFF)], 1,
+            [list_group(ADD, 4, 4094, 0xFFFF, ports)], ports=62)
     flows = [flow0(ADD, cookie, hard=None, idle=None) for cookie in range(256)]
     groups = [port_group(ADD, vlan, 1) for vlan in range(1, 129)]
     night = [flow_del(0), flow0(ADD, 256), (ENOMEM, flow0(ADD, 0)), group_del(0, 128, 1), port_group(ADD, 129, 1), (ENOMEM, groups[127])]
@@ -256,12 +265,46 @@ def example():
     import night
     evening, later = ([payload for _, payload in part] for part in (night.EVENING, night.NIGHT))
     told = [*evening, *later[:-1], (EEXIST, later[-1])]
-    case("the night", journal(*told), len(evening), night.BACK)
+    in_both("the night", told, len(evening), night.BACK)
     case("the morning", journal(*told, *night.BACK), len(evening), [], 0)
 
 
+def version_1():
+    """Journals of version 1 are read with their own lengths; the list is written with those of the device."""
+    added = journal(EXAMPLE, version=1)
+    case("version 1, before the worked example", added, 0, [group_del(0, 5, 2)])
+    case("version 1, after it", added, 1, [], 0)
+    case("version 1, one above", added, 2, "refused 15")
+    # One payload of each form is written: a flow of each table, a group of each type; then none is left.
+    forms = [flow0(ADD, 1), flow10(ADD, 2), flow10(ADD, 3, vlan=0, new=5), flow50(ADD, 4, mac=EVEN, group=gid(0, 5, 1)),
+             port_group(ADD, 5, 2, pop=1), list_group(ADD, 3, 5, 1, [3, 1]), list_group(ADD, 4, 5, 1, [2])]
+    gone = [*[flow_del(cookie) for cookie in (1, 2, 3, 4)], group_del(0, 5, 2), group_del(3, 5, 1), group_del(4, 5, 1)]
+    case("version 1, all deleted", journal(*forms, *gone, version=1), len(forms), forms)
+    case("version 1, all added", journal(*forms, version=1), 0, gone)
+    two, back = journal(flow0(ADD, 1), flow0(ADD, 2), version=1), [flow_del(1), flow_del(2)]
+    case("version 1, a room of 84", two, 0, back, 84)
+    case("version 1, a room of 83", two, 0, "refused 16", 83)
+    case("version 1, cut", two[:-1], 1, "refused 10 line 2")
+    case("version 1, disagrees", journal(flow0(ADD, 1), flow0(ADD, 1), version=1), 1, "refused 14 line 2")
+    for version in (0, 3, 0x0102, 0x0201):
+        case(f"version {version}", journal(version=version), 0, "refused 12 line 0", 0)
+
+
+def other_meaning():
+    """Payloads with the lengths of the other version are ill formed; and some bytes are one command in one version and one in the other."""
+    for version, other in ((1, 2), (2, 1)):
+        ill = of_version(flow0(ADD, 1), other)
+        case(f"lengths of version {other} in version {version}", journal(flow0(ADD, 2), (EINVAL, ill), version=version), 0, [flow_del(2)])
+        case(f"the same as OK, in version {version}", journal(flow0(ADD, 2), ill, version=version), 1, "refused 14 line 2")
+    both = in_two_meanings(flow0(ADD, 7), EXAMPLE)
+    case("two meanings, version 1, added", journal(both, version=1), 0, [flow_del(7)])
+    case("two meanings, version 2, added", journal(both), 0, [group_del(0, 5, 2)])
+    case("two meanings, version 1, deleted", journal(both, flow_del(7), version=1), 1, [flow0(ADD, 7)])
+    case("two meanings, version 2, deleted", journal(both, group_del(0, 5, 2)), 1, [EXAMPLE])
+
+
 def build():
-    for make in (numbers, refusals, rooms, order, one_field, same_again, zeros, edges, example):
+    for make in (numbers, refusals, rooms, order, one_field, same_again, zeros, edges, example, version_1, other_meaning):
         make()
     return CASES
 

@@ -10,7 +10,7 @@ import tempfile
 sys.dont_write_bytecode = True
 HERE = pathlib.Path(__file__).resolve().parent
 sys.path[:0] = [str(HERE)]
-from cases import ADD, MOD, as_list, flow0, flow10, flow50, flow_del, gid, group_del, le, list_group, port_group
+from cases import ADD, MOD, as_list, flow0, flow10, flow50, flow_del, gid, group_del, le, list_group, port_group, region
 
 ROOT = HERE.parents[1]
 EXAMPLES = ROOT / "examples"
@@ -58,8 +58,9 @@ def script():
              "# the ring: 32 slots from address 0; each payload stands at 0x1000", "write 8 0x1000 0", "write 4 0x1008 32"]
     for slot, (what, payload) in enumerate(EVENING + NIGHT):
         lines += [{0: "# ---- the evening", len(EVENING): "# ---- the night"}[slot]] if slot in (0, len(EVENING)) else []
-        descriptor = le(8, PLACE) + bytes(8) + le(2, len(payload)) * 2 + bytes(12)
-        lines += [f"# {slot + 1}. {what}", f"poke {PLACE:#x} {payload.hex()}", f"poke {32 * slot:#x} {descriptor.hex()}",
+        data = region(payload)
+        descriptor = le(8, PLACE) + bytes(8) + le(2, len(data)) * 2 + bytes(12)
+        lines += [f"# {slot + 1}. {what}", f"poke {PLACE:#x} {data.hex()}", f"poke {32 * slot:#x} {descriptor.hex()}",
                   f"write 4 0x100c {slot + 1}", "work 4096"]
     return "\n".join(lines) + "\n"
 

@@ -1,4 +1,4 @@
-"""What notices a misreading of request 2026-06, for tests/misreadings: the stored questions (crates/undo_run) and, as the program
+"""What notices a misreading of undo, for tests/misreadings: the stored questions (crates/undo_run) and, as the program
 `undo N FILE OUT`, the journals of some of them."""
 import pathlib
 import subprocess
@@ -13,7 +13,8 @@ import harness
 
 OLD = bytes(range(256)) * 20  # what stands in OUT before; longer than the lists it is met by
 # The program cannot be short of room, and its other outcomes are those of the call: a few questions show what it does with its file.
-PROGRAM = ("the worked example, before it", "the worked example, after it", "one above", "disagrees in line 2, n = 1", "six runs")
+PROGRAM = ("the worked example, before it", "the worked example, after it", "one above", "disagrees in line 2, n = 1", "six runs",
+           "six runs, version 1")
 CALL_NAME, PROGRAM_NAME = "undo_run", "undo"
 
 

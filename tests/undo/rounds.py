@@ -15,8 +15,8 @@ import harness
 
 MANY = 65_600  # lines of the one long journal; more than 16 bits count
 CARRIED = 0.3  # of the lists, as many are carried out
-COUNTED = ("evenings", "lists", "refusals", "rooms", "payloads by the console")
-EVENINGS, LISTS, REFUSALS, ROOMS, PAYLOADS = COUNTED
+COUNTED = ("evenings", "evenings of version 1", "lists", "refusals", "rooms", "payloads by the console")
+EVENINGS, OLD, LISTS, REFUSALS, ROOMS, PAYLOADS = COUNTED
 
 # How a journal reaches the program: as FILE, or as standard input, a file or a pipe.
 WAYS = ("FILE", "- < FILE", "- |")
@@ -101,7 +101,8 @@ def records_of(script, ran):
 
 
 def carried_out(programs, trail, n, list_, folder):
-    """The list behind the night's script: all OK, and the journal of both leads to the tables of the first n lines."""
+    """The list behind the night's script: all OK, and the journal of both leads to the tables of the first n lines. The night of a journal of
+    version 1 is played with the same commands as a device reads them, so its journal is of version 2."""
     paths = {name: own(folder) / name for name in ("night", "posted", "script", "longer")}
     paths["night"].write_bytes(trail)
     paths["posted"].write_bytes(list_)
@@ -114,7 +115,7 @@ def carried_out(programs, trail, n, list_, folder):
     done = records[count:]
     if ran.status != 0 or ran.err or any(record[:2] != b"\0\x80" for record in done):
         differs("the console does not carry the list out", trail, n, {"console": ran})
-    longer = trail[:6] + b"".join(records)
+    longer = harness.header(trail[5]) + b"".join(records)
     paths["longer"].write_bytes(longer)
     told = harness.run([*programs.replay, str(paths["longer"])])
     if not told.out.startswith(b"ports %d\nlines %d\n" % (trail[5], count + len(done))):
@@ -167,6 +168,7 @@ def a_round(programs, seed, folder):
     frames = harness.generated("generate-asks", seed)
     counts[ROOMS] += len(harness.lines_of(compare_rooms(programs, frames))) // 3
     trail, numbers = questions(frames)
+    counts[OLD] += harness.version(trail) == 1
     for n in numbers:
         list_ = compare(programs, trail, n, folder, rng.choice((None, b"", rng.randbytes(300_000))), rng.choice(WAYS))
         counts[LISTS if list_ is not None else REFUSALS] += 1

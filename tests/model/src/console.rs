@@ -226,7 +226,7 @@ impl RegisterCalls {
     }
 }
 
-/// Payloads alone, carried out on tables without a ring.
+/// Payloads alone, carried out on a device's tables without a ring.
 #[derive(Clone, Debug, Default)]
 pub struct Execute {
     pub tables: Option<Tables>,
@@ -253,7 +253,7 @@ impl Execute {
                     return Err(format!("payload is over {LONGEST} bytes"));
                 }
                 let tables = self.tables.as_mut().ok_or("no ports")?;
-                let status = tables.execute(&data);
+                let status = tables.obey(&data);
                 let (flows, groups) = (tables.flows.len(), tables.groups.len());
                 Ok(Some(format!("{} {flows} {groups}", status.code())))
             }

@@ -337,7 +337,7 @@ impl Device {
                 memory[place.end - 1] |= 0x80;
             }
             if misread(L::RefusedRoomExecutes) {
-                self.tables.execute(&shown);
+                self.tables.obey(&shown);
             }
             if misread(L::RefusedRoomConsumes) {
                 self.registers.ring.tail =
@@ -353,9 +353,9 @@ impl Device {
         let status = match &lent {
             Ok(_) if misread(L::ExecuteAfterStamp) => {
                 shown = stamped(memory, 0x8000).unwrap_or_default();
-                self.tables.execute(&shown)
+                self.tables.obey(&shown)
             }
-            Ok(payload) => self.tables.execute(payload),
+            Ok(payload) => self.tables.obey(payload),
             Err(status) => *status,
         };
         if misread(L::TrailAfterStamp) && lent.is_ok() {

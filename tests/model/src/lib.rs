@@ -6,6 +6,7 @@ pub mod frame;
 pub mod generate;
 pub mod journal;
 pub mod misread;
+pub mod recount;
 pub mod registers;
 pub mod tables;
 #[cfg(test)]

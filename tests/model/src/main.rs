@@ -81,8 +81,8 @@ fn undo_command(words: &[&str]) -> Option<io::Result<ExitCode>> {
         }
         ["night", file] => done(
             std::fs::read(file).and_then(|trail| match post::script(&trail) {
-                Some(script) => print(script.as_bytes()),
-                None => Err(io::Error::other("the trail is cut short")),
+                Ok(script) => print(script.as_bytes()),
+                Err(reason) => Err(io::Error::other(reason)),
             }),
         ),
         ["post", list, script] => done(undo::program::post(list, script)),

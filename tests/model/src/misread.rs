@@ -1,4 +1,5 @@
-//! Misreadings: one sentence of the build description taken in another sense.
+//! Misreadings: one sentence of the build description, or of request 2026-02,
+//! taken in another sense.
 //!
 //! None is chosen unless the command line names one, and `misread` is then
 //! false everywhere: what a chapter says stands beside the question. They show
@@ -248,7 +249,6 @@ labels! {
     TypeBigEndian "types are big-endian"
     LengthBigEndian "lengths are big-endian"
     LengthTakesPad "the pad belongs to the length"
-    LengthTakesHead "the length counts the first 8 bytes"
     PadZero "the pad must be 0"
     FillZero "the fill must be 0"
     FillTo4 "values are filled up to a multiple of 4"
@@ -258,7 +258,7 @@ labels! {
     RestSkipped "fewer than 8 bytes at a region's end are skipped"
     RestOf4Skipped "4 bytes at a region's end are skipped"
     OverlongCut "a TLV that goes over the region's end is cut"
-    EmptyValueRefused "a TLV of length 0 is ill formed"
+    EmptyValueRefused "a TLV without a value is ill formed"
     Type0Ends "type 0 ends a region"
     TopUnlistedRefused "an unlisted type at the top is EINVAL"
     InfoUnlistedRefused "an unlisted type in CMD_INFO is EINVAL"
@@ -486,7 +486,6 @@ labels! {
     CopyPop0 "copies of a list have POP_VLAN 0"
 
     // The trail
-    HeaderVersion2 "the version written is 2"
     HeaderVersionBigEndian "the version is written big-endian"
     HeaderVersionOneByte "the version has 1 byte"
     HeaderPorts2Bytes "the port count has 2 bytes"
@@ -522,7 +521,6 @@ labels! {
     ReplayMarkAnyCase "the mark may have small letters"
     ReplayVersionLow "the low byte of the version is compared"
     ReplayVersion0 "version 0 is taken"
-    ReplayVersion2 "version 2 is taken"
     ReplayPorts0 "a port count of 0 is taken"
     ReplayPorts1Refused "a port count of 1 is refused"
     ReplayPorts62Refused "a port count of 62 is refused"
@@ -535,6 +533,58 @@ labels! {
     ChargedUnlessFault "lines without payload are not charged, others are"
     ChargedChanges "charged is what the tables hold"
     LinesOfPayload "lines without payload are not counted"
+
+    // Request 2026-02: "the 8 header bytes plus the value"
+    DeviceOld "the device obeys lengths that count the value alone"
+    DeviceEither "the device obeys what is EINVAL with the old meaning too"
+    TopOld "at the top lengths count the value alone"
+    InfoOld "in CMD_INFO lengths count the value alone"
+    MembersOld "in GROUP_IDS lengths count the value alone"
+    NestOld "the length of CMD_INFO or GROUP_IDS counts the value alone"
+    UnlistedOld "the length of an unlisted type counts the value alone"
+    LengthWithoutPad "the length counts 6 header bytes, without the pad"
+    WidthByLength "the width of a field is that of the length, header and all"
+    FillByLength "a TLV takes 8 bytes and its length, filled up"
+    NestTakesHead "a nest begins with its own header"
+    OverlongByHeadCut "a TLV that goes over the region's end by up to 8 bytes is cut"
+
+    // Request 2026-02: "a length under 8 is ill formed"
+    Length0Empty "a length of 0 is a TLV without a value"
+    Length0TopEmpty "a length of 0 at the top is a TLV without a value"
+    Length0Ends "a length of 0 ends a region"
+    Length7Empty "a length of 7 is a TLV without a value"
+    Length8Refused "a length of 8 is ill formed"
+    Under8Empty "a length under 8 is a TLV without a value"
+    Under8TopEmpty "a length under 8 at the top is a TLV without a value"
+    Under8InfoEmpty "a length under 8 in CMD_INFO is a TLV without a value"
+    Under8UnlistedEmpty "a length under 8 is ill formed in listed types only"
+    Under8Old "a length under 8 counts the value alone"
+    Under8MembersOld "a length under 8 in GROUP_IDS counts the value alone"
+    Under8Skipped "a TLV of a length under 8 is skipped, whatever its type"
+    Under8MembersSkipped "a TLV of a length under 8 in GROUP_IDS is skipped"
+    Under8Ends "a length under 8 ends a region"
+    InfoUnder8BeforeUnknown "a length under 8 in CMD_INFO comes before an unknown CMD_TYPE"
+    TableBeforeUnder8 "TBL not 0, 10 or 50 comes before a length under 8 in CMD_INFO"
+    KeyBeforeMembersUnder8 "EEXIST and ENOENT come before a length under 8 in GROUP_IDS"
+
+    // Request 2026-02: "New trails carry version 2; version 1 trails are still read"
+    HeaderVersion1 "the version written is 1"
+    HeaderVersion3 "the version written is 3"
+    LineLengthTakesHead "the line's length counts 8 bytes more than its payload has"
+    ReplayVersion3 "version 3 is taken"
+    ReplayVersionsAbove "versions above 2 are taken"
+    ReplayVersionBigEndian "the version is read big-endian"
+    ReplayVersion1Refused "version 1 is refused"
+    ReplayVersion2Refused "version 2 is refused"
+    ReplayVersion1New "version 1 is read with lengths that count the header"
+    ReplayVersion2Old "version 2 is read with lengths that count the value alone"
+    ReplayEitherMeaning "a line may agree with either meaning of lengths"
+    OldTopNew "at the top of version 1 lengths count the header"
+    OldInfoNew "in CMD_INFO of version 1 lengths count the header"
+    OldMembersNew "in GROUP_IDS of version 1 lengths count the header"
+    OldNestNew "in version 1 the length of CMD_INFO or GROUP_IDS counts the header"
+    OldLength0Refused "a length of 0 is ill formed in version 1"
+    OldUnder8Refused "a length under 8 is ill formed in version 1"
 }
 
 /// The forms of a command that differ in the fields they use.

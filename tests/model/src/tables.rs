@@ -1,7 +1,7 @@
 //! Flows and groups, and the commands that change them.
 
 use crate::misread::{misread, Label as L};
-use crate::tlv::{split, Fields};
+use crate::tlv::{ends_under_8, split, Fields, Place, Version};
 use std::collections::BTreeMap;
 
 /// The codes that a consumed slot is stamped with.
@@ -158,17 +158,30 @@ impl Tables {
         }
     }
 
-    /// Carries a payload out. Any status but OK leaves the tables as they were.
-    pub fn execute(&mut self, payload: &[u8]) -> Status {
-        match self.command(payload) {
+    /// Carries a payload out as a device does.
+    pub fn obey(&mut self, payload: &[u8]) -> Status {
+        match () {
+            _ if misread(L::DeviceOld) => self.execute(payload, Version::One),
+            _ if misread(L::DeviceEither) => match self.execute(payload, Version::DEVICE) {
+                Status::Einval => self.execute(payload, Version::One),
+                status => status,
+            },
+            _ => self.execute(payload, Version::DEVICE),
+        }
+    }
+
+    /// Carries a payload out, its lengths read by a version. Any status but OK
+    /// leaves the tables as they were.
+    pub fn execute(&mut self, payload: &[u8], version: Version) -> Status {
+        match self.command(payload, version) {
             Ok(()) => Status::Ok,
             Err(status) => status,
         }
     }
 
     /// The order of the checks is the order of the statuses.
-    fn command(&mut self, payload: &[u8]) -> Result<(), Status> {
-        let top = Fields::of(payload)?;
+    fn command(&mut self, payload: &[u8], version: Version) -> Result<(), Status> {
+        let top = Fields::of(payload, version)?;
         if misread(L::UnknownBeforeTop) && is_unknown(top.peek(CMD_TYPE)) {
             return Err(Status::Enotsup);
         }
@@ -184,7 +197,14 @@ impl Tables {
                 return Err(Status::Einval)
             }
             _ if misread(L::CmdInfoWidth) && info.len() % 8 != 0 => return Err(Status::Einval),
-            _ if misread(L::NestBeforeUnknown) => drop(split(info).ok_or(Status::Einval)?),
+            _ if misread(L::NestBeforeUnknown) => {
+                drop(split(info, version, Place::Info).ok_or(Status::Einval)?)
+            }
+            _ if misread(L::InfoUnder8BeforeUnknown)
+                && ends_under_8(info, version, Place::Info) =>
+            {
+                return Err(Status::Einval)
+            }
             4 | 5 if misread(L::FlowModDelSwapped) => code = 9 - code,
             8 | 9 if misread(L::GroupModDelSwapped) => code = 17 - code,
             6..=9 if misread(L::GroupCommandsFrom6) => code = code % 9 + 1,
@@ -197,12 +217,17 @@ impl Tables {
             }
             return Err(Status::Enotsup);
         }
-        let begins_with_tbl = info.starts_with(&[1, 0, 0, 0, 2, 0]);
+        let begins_with_tbl = info.starts_with(&[1, 0, 0, 0, 2 + version.counted() as u8, 0]);
         let other_table = info.get(8).is_some_and(|low| ![0, 10, 50].contains(low));
-        if misread(L::TableBeforeNest) && code < 5 && begins_with_tbl && other_table {
+        if code < 5
+            && begins_with_tbl
+            && other_table
+            && (misread(L::TableBeforeNest)
+                || misread(L::TableBeforeUnder8) && ends_under_8(info, version, Place::Info))
+        {
             return Err(Status::Enotsup);
         }
-        let fields = Fields::info(info, code)?;
+        let fields = Fields::info(info, code, version)?;
         match code {
             3 => self.put_flow(Action::Add, &fields),
             4 => self.put_flow(Action::Mod, &fields),
@@ -325,6 +350,15 @@ impl Tables {
         };
         if let Some(id) = fields.peek(field::GROUP_ID).map(u32::from_le_bytes) {
             early(&self.groups, limit, action, &id)?;
+            let members = fields.nest(field::GROUP_IDS).ok().flatten();
+            let is_under_8 = |nest| ends_under_8(nest, fields.version(), Place::Members);
+            if misread(L::KeyBeforeMembersUnder8) && members.is_some_and(is_under_8) {
+                match (action, self.groups.contains_key(&id)) {
+                    (Action::Add, true) => return Err(Status::Eexist),
+                    (Action::Mod, false) => return Err(Status::Enoent),
+                    _ => {}
+                }
+            }
         }
         let (id, mut group) = self.group(fields)?;
         if let (Action::Mod, Some(old)) = (action, self.groups.get(&id)) {
@@ -548,18 +582,24 @@ impl Tables {
                 return Err(Status::Einval);
             }
             Group::List {
-                members: self.members(nest, usize::from(count), id)?,
+                members: self.members(nest, usize::from(count), id, fields.version())?,
             }
         };
         Ok((id, group))
     }
 
     /// The member list: nothing in it is skipped, and members need not exist.
-    fn members(&self, nest: &[u8], count: usize, group: u32) -> Result<Vec<u32>, Status> {
-        let mut list = match split(nest) {
+    fn members(
+        &self,
+        nest: &[u8],
+        count: usize,
+        group: u32,
+        version: Version,
+    ) -> Result<Vec<u32>, Status> {
+        let mut list = match split(nest, version, Place::Members) {
             None if misread(L::MembersIllFormed) => (0..nest.len())
                 .rev()
-                .find_map(|end| split(&nest[..end]))
+                .find_map(|end| split(&nest[..end], version, Place::Members))
                 .unwrap_or_default(),
             list => list.ok_or(Status::Einval)?,
         };

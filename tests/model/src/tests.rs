@@ -1,18 +1,19 @@
-//! Cases from the build description, chapter by chapter.
+//! Cases from the build description, chapter by chapter, and from requests 2026-06 and 2026-02.
 
 mod calls;
 mod commands;
 mod coverage;
 mod frames;
+mod lengths;
 mod trail;
 mod undo;
 
-/// TLVs in a row with zero pad and fill.
+/// TLVs in a row with zero pad and fill, each length with the header.
 fn tlvs(fields: &[(u32, &[u8])]) -> Vec<u8> {
     let mut out = Vec::new();
     for (kind, value) in fields {
         out.extend(kind.to_le_bytes());
-        out.extend((value.len() as u16).to_le_bytes());
+        out.extend((value.len() as u16 + 8).to_le_bytes());
         out.extend([0, 0]);
         out.extend(*value);
         while out.len() % 8 != 0 {
@@ -26,8 +27,21 @@ fn payload(code: u16, fields: &[(u32, &[u8])]) -> Vec<u8> {
     tlvs(&[(1, &code.to_le_bytes()), (2, &tlvs(fields))])
 }
 
-/// The description's payload: adds the group of VLAN 5 and port 2.
+/// The description's payload with the lengths of request 2026-02: adds the
+/// group of VLAN 5 and port 2.
 fn worked_example() -> Vec<u8> {
+    crate::console::bytes(concat!(
+        "010000000A0000000700000000000000",
+        "0200000038000000",
+        "0A0000000C0000000200050000000000",
+        "080000000C0000000200000000000000",
+        "2B000000090000000100000000000000",
+    ))
+    .unwrap()
+}
+
+/// The same as the description has it.
+fn old_example() -> Vec<u8> {
     crate::console::bytes(concat!(
         "01000000020000000700000000000000",
         "0200000030000000",

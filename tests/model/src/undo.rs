@@ -8,6 +8,7 @@ pub mod wrong;
 
 use crate::journal::{replay, Refused, HEADER, LINE};
 use crate::tables::{field, id_low, Flow, Group, Match, Tables, CMD_INFO, CMD_TYPE};
+use crate::tlv::Version;
 use misread::{misread, Label as L};
 use std::collections::BTreeMap;
 use std::fmt;
@@ -69,17 +70,20 @@ pub fn undo(trail: &[u8], n: u64, room: &mut [u8]) -> Result<usize, Refusal> {
 
 /// The payloads of the list. Faults of the trail come before n, wherever they stand.
 pub fn payloads(trail: &[u8], n: u64) -> Result<Vec<Vec<u8>>, Refusal> {
+    let trail = &wrong::version(trail)[..];
     let trail = wrong::looked_at(trail, n);
     let now = replay(trail).map_err(Refusal::Trail)?;
     let n = wrong::number(trail, now.lines, n);
-    if n > now.lines {
+    if n > now.lines || wrong::too_old(trail) {
         return Err(Refusal::Count);
     }
     let then = replay(first_lines(trail, n)).map_err(Refusal::Trail)?;
     let mut steps = steps(&entries(&then.tables), &entries(&now.tables));
     steps.sort_by_key(|step| (step.action, step.key));
     wrong::steps(&mut steps, trail, n, &then.tables, &now.tables);
-    Ok(steps.iter().map(payload).collect())
+    let mut payloads: Vec<Vec<u8>> = steps.iter().map(payload).collect();
+    wrong::payloads(&mut payloads, trail);
+    Ok(payloads)
 }
 
 /// The header and the first n lines, or as many as there are.
@@ -240,13 +244,13 @@ fn payload(step: &Step) -> Vec<u8> {
     region(&top)
 }
 
-/// TLVs in a row, with zero pads and fill.
+/// TLVs in a row, with zero pads and fill. Lengths count as the device has it, whatever the version of the trail.
 fn region(fields: &Fields) -> Vec<u8> {
     let mut out = Vec::new();
     for (kind, value) in fields {
         let start = out.len();
         out.extend(kind.to_le_bytes());
-        out.extend((value.len() as u16).to_le_bytes());
+        out.extend(((Version::DEVICE.counted() + value.len()) as u16).to_le_bytes());
         out.extend([0, 0]);
         out.extend(value);
         out.resize(out.len().next_multiple_of(8), 0);

@@ -1,11 +1,14 @@
 //! Commands as payloads: valid ones of every form, and these with one thing
-//! changed.
+//! changed. Their lengths count as a device has it; `written` has them as in
+//! another version.
 
 use super::Rng;
 use crate::journal;
 use crate::misread::{Form, FIELDS};
+use crate::recount::{older, recount};
 use crate::tables::{field, id_low, id_type, id_vlan, Tables};
 use crate::tables::{CMD_INFO, CMD_TYPE};
+use crate::tlv::{Place, Version, HEAD};
 
 #[derive(Clone, Debug, PartialEq, Eq)]
 pub struct Field {
@@ -25,12 +28,20 @@ pub fn encode(fields: &[Field], pad: u16, fill: u8) -> Vec<u8> {
     let mut out = Vec::new();
     for field in fields {
         out.extend(field.kind.to_le_bytes());
-        out.extend((field.value.len() as u16).to_le_bytes());
+        out.extend(((HEAD + field.value.len()) as u16).to_le_bytes());
         out.extend(pad.to_le_bytes());
         out.extend(&field.value);
         out.resize(out.len().div_ceil(8) * 8, fill);
     }
     out
+}
+
+/// A payload as it stands in a trail of a version.
+pub fn written(payload: &[u8], version: Version) -> Vec<u8> {
+    match version {
+        Version::One => older(payload),
+        Version::Two => payload.to_vec(),
+    }
 }
 
 /// A command before it is put into bytes, so that single fields can be spoiled.
@@ -412,11 +423,152 @@ pub fn spoiled_lists(command: &Command) -> Vec<Vec<u8>> {
         nest[..nest.len() - 8].to_vec(),
         [nest, &[0; 4]].concat(),
         [nest, &[0; 8]].concat(),
+        [nest, &[0, 0, 0, 0, 8, 0, 0, 0]].concat(),
     ];
     let mut long = nest.to_vec();
     long[4] = 0xff;
     lists.push(long);
     lists
+}
+
+/// A TLV's head alone: type and length.
+fn head(kind: u32, length: u16) -> Vec<u8> {
+    let mut out = kind.to_le_bytes().to_vec();
+    out.extend(u32::from(length).to_le_bytes());
+    out
+}
+
+/// Where the TLVs of a well formed region begin.
+fn places(region: &[u8]) -> Vec<usize> {
+    let (mut places, mut at) = (Vec::new(), 0);
+    while at < region.len() {
+        places.push(at);
+        let length = u16::from_le_bytes([region[at + 4], region[at + 5]]);
+        at += usize::from(length).next_multiple_of(8).max(HEAD);
+    }
+    places
+}
+
+/// A region with wrong lengths, and lengths that are only just right: in one
+/// more TLV of a given type at its end or its beginning, and in those that it
+/// has.
+fn other_lengths(rng: &mut Rng, region: &[u8], kind: u32) -> Vec<Vec<u8>> {
+    let mut out = Vec::new();
+    // From 9 to 15 they go past the end by less than 8.
+    for length in [0, 1, 2, 3, 4, 5, 6, 7, 7, 8, 9, 12, 15, 16, 17] {
+        out.push([region, &head(kind, length)].concat());
+    }
+    for length in [0, 4, 7, 8, 9, 15, 16, 17, 23, 24] {
+        out.push([region, &head(kind, length), &[0; 8]].concat());
+    }
+    for length in [0, rng.range(1, 7) as u16, 7, 8] {
+        out.push([&head(kind, length), region].concat());
+    }
+    // The length that the value alone would have, and one with the header twice.
+    out.push([region, &head(kind, 4), &rng.bytes(8)].concat());
+    out.push([region, &head(kind, 20), &rng.bytes(8)].concat());
+    let places = places(region);
+    for _ in 0..20 * places.len().min(1) {
+        // Of the last one a length can go past the end by little.
+        let at = match rng.chance(50) {
+            true => rng.pick(&places),
+            false => places[places.len() - 1],
+        };
+        let old = u16::from_le_bytes([region[at + 4], region[at + 5]]);
+        let rest = (region.len() - at) as u16;
+        let under = rng.range(0, 7) as u16;
+        let past = rest + rng.range(1, 7) as u16;
+        let far = rng.pick(&[65_535, 65_534, 65_529, 65_528, 65_527, 65_520, 65_519]);
+        let length = match rng.range(0, 11) {
+            0..=2 => under,
+            3 => rng.pick(&[0, 7]),
+            4 => 8,
+            5 => old.saturating_sub(8),
+            6 => old + 8,
+            7 => rng.pick(&[old - 1, old + 1]),
+            8 => past,
+            9 => rest + rng.pick(&[0, 8, 9]),
+            10 => far,
+            _ => old ^ 0x100,
+        };
+        let mut other = region.to_vec();
+        other[at + 4..at + 6].copy_from_slice(&length.to_le_bytes());
+        out.push(other);
+    }
+    rng.shuffle(&mut out);
+    out.truncate(28);
+    out
+}
+
+/// A command with lengths that are wrong or only just right, in each of its
+/// regions, with faults that come before or after, and in the old meaning.
+pub fn length_edges(rng: &mut Rng, command: &Command) -> Vec<Vec<u8>> {
+    let mut out = old_meaning(command);
+    let unlisted = rng.pick(&[99, 99, 0, 3]);
+    out.extend(other_lengths(rng, &command.payload(), unlisted));
+    let unlisted = rng.pick(&[99, 99, 0, 11, field::DST_MAC, field::POP_VLAN]);
+    for (k, nest) in (0..).zip(other_lengths(rng, &command.info(), unlisted)) {
+        out.push(top(command.code, &nest));
+        if k < 8 {
+            // An unknown command comes before its nest.
+            out.push(top(6, &nest));
+        }
+    }
+    if let Some(at) = command.fields.iter().position(|f| f.kind == field::TBL) {
+        // A table that is not there comes after it.
+        let mut other = command.clone();
+        other.fields.swap(0, at);
+        other.fields[0].value = vec![rng.pick(&[20, 60]), 0];
+        let under = head(99, rng.range(0, 7) as u16);
+        out.push(top(command.code, &[other.info(), under].concat()));
+    }
+    if let Some(nest) = command.get(field::GROUP_IDS) {
+        let next = places(nest).len() as u32 + 1;
+        for (k, other) in (0..).zip(other_lengths(rng, nest, next)) {
+            let mut changed = command.clone();
+            changed.set(field::GROUP_IDS, other);
+            out.push(changed.payload());
+            if k < 8 {
+                // A key that is there, or not, comes after it.
+                changed.code = 15 - changed.code;
+                out.push(changed.payload());
+            }
+        }
+    }
+    out.retain(|payload| payload.len() <= journal::LONGEST);
+    out
+}
+
+/// A payload in the meaning of version 1, whole or in some of its regions.
+fn old_meaning(command: &Command) -> Vec<Vec<u8>> {
+    let payload = command.payload();
+    let regions: [&[Place]; 7] = [
+        &[Place::Top],
+        &[Place::Info],
+        &[Place::Members],
+        &[Place::Top, Place::Info],
+        &[Place::Info, Place::Members],
+        &[Place::Top, Place::Members],
+        &[Place::Top, Place::Info, Place::Members],
+    ];
+    let old = regions.map(|regions| {
+        let mut out = payload.clone();
+        let chosen = |place: Place, _| regions.contains(&place);
+        recount(&mut out, Place::Top, Version::Two, &chosen);
+        out
+    });
+    let nest = |kinds: &[u32]| {
+        let mut out = payload.clone();
+        let chosen = |place, kind| match place {
+            Place::Top => kind == CMD_INFO && kinds.contains(&CMD_INFO),
+            Place::Info => kind == field::GROUP_IDS && kinds.contains(&kind),
+            Place::Members => false,
+        };
+        recount(&mut out, Place::Top, Version::Two, &chosen);
+        out
+    };
+    let nests = [nest(&[CMD_INFO]), nest(&[field::GROUP_IDS])];
+    old.into_iter().chain(nests).collect()
 }
 
 /// The types that a command uses, by its code and table or group type.
@@ -552,10 +704,10 @@ pub fn variations(rng: &mut Rng, command: &Command, ports: u32) -> Vec<Vec<u8>> 
         [&info[..], &[0; 4]].concat(),
         [&info[..], &[0; 8]].concat(),
         [&info[..], &[0; 1]].concat(),
-        [&info[..], &[99, 0, 0, 0, 1, 0, 0, 0]].concat(),
+        [&info[..], &[99, 0, 0, 0, 9, 0, 0, 0]].concat(),
         [
             &info[..],
-            &[99, 0, 0, 0, 8, 0, 0, 0, 1, 2, 3, 4, 5, 6, 7, 8],
+            &[99, 0, 0, 0, 16, 0, 0, 0, 1, 2, 3, 4, 5, 6, 7, 8],
         ]
         .concat(),
     ];
@@ -624,6 +776,8 @@ pub fn variations(rng: &mut Rng, command: &Command, ports: u32) -> Vec<Vec<u8>> 
     }
     out.push([&payload[..], &[0; 4]].concat());
     out.push([&payload[..], &[0; 8]].concat());
+    out.push([&payload[..], &[0, 0, 0, 0, 8, 0, 0, 0]].concat());
+    out.extend(length_edges(rng, command));
     // The same with a nest that is too long for the payload.
     let mut long = payload.clone();
     let at = 16 + 4;

@@ -5,6 +5,7 @@ use super::trail::{cut, spoil_header, spoil_lines};
 use super::Rng;
 use crate::journal;
 use crate::tables::{field, id_type, id_vlan, Flow, Group, Match, Status, Tables};
+use crate::tlv::Version;
 use crate::undo::check::{rooms, LONGEST_LIST};
 use crate::undo::undo;
 use std::collections::BTreeMap;
@@ -60,8 +61,10 @@ pub fn asks(seed: u64) -> Vec<Ask> {
 pub fn evening(seed: u64) -> Evening {
     let mut rng = Rng::new(seed ^ 0x6576_656e_696e_6773).skipping(seed % 16 == 9);
     let ports = some_ports(&mut rng) as u8;
+    let version = rng.pick(&[Version::One, Version::Two]);
     let mut maker = Maker {
         rng,
+        version,
         tables: Tables::empty(u32::from(ports)),
         lines: Vec::new(),
     };
@@ -69,7 +72,11 @@ pub fn evening(seed: u64) -> Evening {
     let count = maker.count();
     let trail = match seed % 8 {
         7 => maker.spoiled(ports),
-        _ => [journal::header(ports), maker.lines.concat()].concat(),
+        _ => [
+            journal::header_of(version as u16, ports),
+            maker.lines.concat(),
+        ]
+        .concat(),
     };
     let rng = &mut maker.rng;
     let between = [rng.range(0, count), rng.range(0, count)];
@@ -85,6 +92,7 @@ pub fn evening(seed: u64) -> Evening {
 
 struct Maker {
     rng: Rng,
+    version: Version,
     tables: Tables,
     lines: Vec<Vec<u8>>,
 }
@@ -105,20 +113,28 @@ impl Maker {
 
     /// The trail cut, with another header, or with a line that disagrees.
     fn spoiled(&mut self, ports: u8) -> Vec<u8> {
-        let mut header = journal::header(ports);
-        match self.rng.range(0, 2) {
-            0 => return cut(&mut self.rng, &header, &self.lines),
-            1 => spoil_header(&mut self.rng, &mut header),
-            _ => spoil_lines(&mut self.rng, &mut self.lines, &self.tables),
+        let mut header = journal::header_of(self.version as u16, ports);
+        let rng = &mut self.rng;
+        match rng.range(0, 9) {
+            0..=2 => return cut(rng, &header, &self.lines),
+            3..=5 => spoil_header(rng, &mut header),
+            6 => header[3] = self.version.other() as u8,
+            _ => spoil_lines(rng, &mut self.lines, &self.tables, self.version),
         }
         [header, self.lines.concat()].concat()
     }
 
     fn carry_out(&mut self, payload: &[u8]) {
+        self.carry_out_as(payload, self.version);
+    }
+
+    /// In a meaning of lengths that need not be the trail's, which decides the status.
+    fn carry_out_as(&mut self, payload: &[u8], meaning: Version) {
         let slot = self.lines.len() as u16 % 1_024;
-        let status = self.tables.execute(payload);
+        let payload = written(payload, meaning);
+        let status = self.tables.execute(&payload, self.version);
         self.lines
-            .push(journal::line(status.stamp(), slot, payload));
+            .push(journal::line(status.stamp(), slot, &payload));
     }
 
     fn count(&self) -> u64 {
@@ -137,6 +153,7 @@ impl Maker {
 
     /// Any commands, and slots without a payload among them.
     fn any(&mut self, most: u64) {
+        let others = if self.rng.chance(3) { 100 } else { 3 };
         for _ in 0..self.rng.range(0, most) {
             if self.rng.chance(8) {
                 let fault = self
@@ -145,7 +162,11 @@ impl Maker {
                 self.lines.push(journal::line(fault.stamp(), 7, &[]));
             } else {
                 let payload = any_payload(&mut self.rng, &self.tables, 85);
-                self.carry_out(&payload);
+                let meaning = match self.rng.chance(others) {
+                    true => self.version.other(),
+                    false => self.version,
+                };
+                self.carry_out_as(&payload, meaning);
             }
         }
     }

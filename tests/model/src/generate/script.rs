@@ -372,7 +372,8 @@ impl Script {
             return self.oddities();
         }
         match self.rng.range(0, 199) {
-            0..=59 => self.commands(),
+            0..=55 => self.commands(),
+            56..=59 => self.lengths(),
             60..=99 => self.frames(),
             100..=117 => self.probe(),
             118..=125 => self.halves(),
@@ -559,6 +560,21 @@ impl Script {
         let payloads: Vec<Vec<u8>> = (0..count)
             .map(|_| any_payload(&mut self.rng, &tables, 72))
             .collect();
+        self.run(&payloads);
+    }
+
+    /// A command with other lengths, then as it should be.
+    fn lengths(&mut self) {
+        let tables = self.tables();
+        let mut forms = forms(&mut self.rng, &tables);
+        if self.rng.chance(40) {
+            forms.retain(|form| form.get(field::GROUP_IDS).is_some());
+        }
+        let form = self.rng.pick(&forms);
+        let mut payloads = length_edges(&mut self.rng, &form);
+        self.rng.shuffle(&mut payloads);
+        payloads.truncate(14);
+        payloads.push(form.payload());
         self.run(&payloads);
     }
 
@@ -1114,17 +1130,22 @@ impl Script {
         let stamp = self.rng.next() as u16;
         let mut bytes = Vec::new();
         if self.rng.chance(50) {
-            // The address reads as a type that is not listed, the cookie as the
-            // head of a TLV over the rest of the descriptor.
-            bytes.extend(at.to_le_bytes());
-            bytes.extend([99, 0, 0, 0, 16, 0, 0, 0]);
-            let length = (32 + command.len()) as u16;
+            // The payload begins with the head of a TLV over the descriptor, or
+            // with the descriptor. Then the address reads as a type and as a
+            // length of 0, which is ill formed.
+            let before: u64 = if at < 8 { 0 } else { self.rng.pick(&[8, 8, 0]) };
+            if before > 0 {
+                bytes.extend([99, 0, 0, 0, 40, 0, 0, 0]);
+            }
+            bytes.extend((at - before).to_le_bytes());
+            bytes.extend([99, 0, 0, 0, 24, 0, 0, 0]);
+            let length = before as u16 + (32 + command.len()) as u16;
             bytes.extend(length.to_le_bytes());
             bytes.extend(length.to_le_bytes());
             bytes.extend([0; 10]);
             bytes.extend(stamp.to_le_bytes());
             bytes.extend(&command);
-            self.poke(at, &bytes);
+            self.poke(at - before, &bytes);
         } else {
             // The payload stands before the descriptor and ends with it; the
             // stamp is the pad of its last TLV.
@@ -1134,13 +1155,13 @@ impl Script {
             let start = at - 8 - command.len() as u64;
             let length = (command.len() + 8 + 32) as u16;
             bytes.extend(&command);
-            bytes.extend([77, 0, 0, 0, 24, 0, 0, 0]);
+            bytes.extend([77, 0, 0, 0, 32, 0, 0, 0]);
             bytes.extend(start.to_le_bytes());
             bytes.extend([0; 8]);
             bytes.extend(length.to_le_bytes());
             bytes.extend(length.to_le_bytes());
             bytes.extend([0; 4]);
-            bytes.extend([78, 0, 0, 0, 0, 0]);
+            bytes.extend([78, 0, 0, 0, 8, 0]);
             bytes.extend(stamp.to_le_bytes());
             self.poke(start, &bytes);
         }
@@ -1271,9 +1292,9 @@ impl Script {
             if buf_size == 4_096 && tlv_size == 4_096 {
                 // A payload of the greatest length: a command and one TLV that
                 // is skipped.
-                let skipped = 4_088usize.saturating_sub(bytes.len()) as u16;
+                let length = 4_096usize.saturating_sub(bytes.len()).max(8) as u16;
                 bytes.extend([99, 0, 0, 0]);
-                bytes.extend(skipped.to_le_bytes());
+                bytes.extend(length.to_le_bytes());
                 bytes.extend([0, 0]);
             }
             self.poke(buffer, &bytes);

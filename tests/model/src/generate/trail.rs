@@ -3,14 +3,17 @@
 use super::commands::*;
 use super::Rng;
 use crate::journal;
+use crate::recount::{newer, older};
 use crate::tables::{Status, Tables};
+use crate::tlv::Version;
 
 pub fn journal(seed: u64) -> Vec<u8> {
     // Seeds 8, 24, 40 and so on have commands with something to be skipped.
     let mut rng = Rng::new(seed ^ 0x6a6f_7572_6e61_6c73).skipping(seed % 16 == 8);
     let ports = some_ports(&mut rng) as u8;
+    let version = rng.pick(&[Version::One, Version::Two]);
     let mut tables = Tables::empty(u32::from(ports));
-    let mut header = journal::header(ports).to_vec();
+    let mut header = journal::header_of(version as u16, ports);
     let mut lines: Vec<Vec<u8>> = Vec::new();
     let size = rng.pick(&[2, 4, 8, 16, 1_024, 65_536]);
     let count = match rng.range(0, 9) {
@@ -28,27 +31,36 @@ pub fn journal(seed: u64) -> Vec<u8> {
         payloads.extend(group_fillers(&mut rng, &tables).into_iter().map(Some));
         rng.shuffle(&mut payloads);
     }
+    // Few or all lines in the meaning of the other version; the status is that
+    // of the trail's own.
+    let others = if rng.chance(6) { 100 } else { 3 };
     for planned in payloads {
         let slot = (lines.len() as u64 % size) as u16;
         let fault = rng.pick(&[Status::Enxio, Status::Emsgsize, Status::Einval]);
-        lines.push(match planned {
-            None if rng.chance(10) => journal::line(fault.stamp(), slot, &[]),
-            None => {
-                let payload = any_payload(&mut rng, &tables, 70);
-                journal::line(tables.execute(&payload).stamp(), slot, &payload)
-            }
-            Some(payload) => journal::line(tables.execute(&payload).stamp(), slot, &payload),
-        });
+        if planned.is_none() && rng.chance(10) {
+            lines.push(journal::line(fault.stamp(), slot, &[]));
+            continue;
+        }
+        let meaning = match rng.chance(others) {
+            true => version.other(),
+            false => version,
+        };
+        let payload = planned.unwrap_or_else(|| any_payload(&mut rng, &tables, 70));
+        let payload = written(&payload, meaning);
+        let status = tables.execute(&payload, version);
+        lines.push(journal::line(status.stamp(), slot, &payload));
     }
     if rng.skipping > 0 {
         // The longest payload: a command and one TLV that is skipped.
         let mut payload = command(&mut rng, &tables).payload();
-        let skipped = journal::LONGEST.saturating_sub(payload.len() + 8);
+        let length = journal::LONGEST - payload.len();
         payload.extend([99, 0, 0, 0]);
-        payload.extend((skipped as u16).to_le_bytes());
+        payload.extend((length as u16).to_le_bytes());
         payload.extend([0, 0]);
         payload.resize(journal::LONGEST, 0);
-        lines.push(journal::line(tables.execute(&payload).stamp(), 0, &payload));
+        let payload = written(&payload, version);
+        let status = tables.execute(&payload, version);
+        lines.push(journal::line(status.stamp(), 0, &payload));
         if rng.chance(20) {
             // Too short for a header, and another mark.
             header[rng.index(3)] ^= 0x20;
@@ -68,7 +80,9 @@ pub fn journal(seed: u64) -> Vec<u8> {
         }
         34..=53 => return cut(&mut rng, &header, &lines),
         54..=69 => spoil_header(&mut rng, &mut header),
-        _ => spoil_lines(&mut rng, &mut lines, &tables),
+        // A version that is known, but not that of the lines.
+        70..=75 => header[3] = version.other() as u8,
+        _ => spoil_lines(&mut rng, &mut lines, &tables, version),
     }
     if kind >= 54 && rng.chance(15) {
         // A second fault behind the first.
@@ -98,19 +112,22 @@ pub fn cut(rng: &mut Rng, header: &[u8], lines: &[Vec<u8>]) -> Vec<u8> {
 
 pub fn spoil_header(rng: &mut Rng, header: &mut Vec<u8>) {
     let bit = 1 << rng.range(0, 7);
-    match rng.range(0, 6) {
+    let unknown: [u16; 8] = [0, 3, 3, 4, 0x0102, 0x0200, 0x00ff, 65_535];
+    match rng.range(0, 8) {
         0 => header[rng.index(3)] ^= bit,
-        1 => header[3] = rng.pick(&[0, 2, 0xff]),
-        2 => header[4] = rng.pick(&[1, 0xff]),
-        3 => header[3..5].copy_from_slice(&[0, 1]),
-        4 => header[5] = rng.pick(&[0, 63, 64, 255]),
-        5 => *header = vec![b'R', b'K', b'X', 9, 9, 0],
-        _ => header[3..6].copy_from_slice(&[2, 0, 63]),
+        1 | 2 => header[3..5].copy_from_slice(&rng.pick(&unknown).to_le_bytes()),
+        // Its own, but for the high byte.
+        3 | 4 => header[4] = rng.pick(&[1, 2, 0xff]),
+        // Its own, big-endian.
+        5 => header.swap(3, 4),
+        6 => header[5] = rng.pick(&[0, 63, 64, 255]),
+        7 => *header = vec![b'R', b'K', b'X', 9, 9, 0],
+        _ => header[3..6].copy_from_slice(&[3, 0, 63]),
     }
 }
 
 /// Makes one line disagree, in one of the ways there are.
-pub fn spoil_lines(rng: &mut Rng, lines: &mut Vec<Vec<u8>>, tables: &Tables) {
+pub fn spoil_lines(rng: &mut Rng, lines: &mut Vec<Vec<u8>>, tables: &Tables, version: Version) {
     if lines.is_empty() {
         lines.push(journal::line(0x8000, 0, &[]));
         return;
@@ -118,7 +135,7 @@ pub fn spoil_lines(rng: &mut Rng, lines: &mut Vec<Vec<u8>>, tables: &Tables) {
     let at = rng.index(lines.len());
     let payload = lines[at][6..].to_vec();
     let codes = [0, 2, 6, 12, 17, 22, 90, 95, 1, 0x7fff].map(|code: u16| 0x8000 | code);
-    match rng.range(0, 12) {
+    match rng.range(0, 13) {
         0 => {
             let code = rng.pick(&codes);
             lines[at][..2].copy_from_slice(&code.to_le_bytes());
@@ -132,9 +149,9 @@ pub fn spoil_lines(rng: &mut Rng, lines: &mut Vec<Vec<u8>>, tables: &Tables) {
         6 | 7 => {
             // Longer than any payload: TLVs that are skipped, whole or cut.
             let length = rng.pick(&[4_096, 4_097, 4_104, 8_192, 65_528, 65_535]);
-            let command = command(rng, tables).payload();
-            let mut body = command;
-            body.extend([99, 0, 0, 0, 0, 0, 0, 0].repeat(8_192));
+            let mut body = command(rng, tables).payload();
+            body.extend([99, 0, 0, 0, 8, 0, 0, 0].repeat(8_192));
+            let body = written(&body, version);
             let code = rng.pick(&codes);
             lines[at] = journal::line(code, 0, &body[..length]);
             if rng.chance(30) {
@@ -153,6 +170,14 @@ pub fn spoil_lines(rng: &mut Rng, lines: &mut Vec<Vec<u8>>, tables: &Tables) {
             if let Some(byte) = (!payload.is_empty()).then(|| 6 + rng.index(payload.len())) {
                 lines[at][byte] ^= 1 << rng.range(0, 7);
             }
+        }
+        // In the meaning of the other version, with its status in this one.
+        12 => {
+            lines[at].truncate(6);
+            lines[at].extend(match version {
+                Version::One => newer(&payload),
+                Version::Two => older(&payload),
+            });
         }
         // A length that is off by some bytes shifts all that follows.
         _ => lines[at][2] ^= rng.pick(&[1, 2, 8, 0x80]),

@@ -131,13 +131,13 @@ fn n_slots_then_none() {
 #[test]
 fn the_payload_is_recorded_as_it_was_before_the_stamp() {
     let (mut device, mut memory) = ring();
-    // The payload is the descriptor itself and a command behind it.
+    // The payload is a TLV over the descriptor itself and a command behind it.
     let command = worked_example();
-    describe(&mut memory, 0, 64, 32 + 72, 32 + 72);
-    memory[72..80].copy_from_slice(&[99, 0, 0, 0, 16, 0, 0, 0]);
+    describe(&mut memory, 0, 56, 40 + 72, 40 + 72);
+    memory[56..64].copy_from_slice(&[99, 0, 0, 0, 40, 0, 0, 0]);
     memory[94..96].copy_from_slice(&[0x34, 0x12]);
     memory[96..96 + 72].copy_from_slice(&command);
-    let before = memory[64..64 + 104].to_vec();
+    let before = memory[56..56 + 112].to_vec();
     device.write(4, 0x100c, 1).unwrap();
     let mut room = vec![0; 200];
     let done = device.work(&mut memory, &mut room).unwrap();
@@ -149,9 +149,33 @@ fn the_payload_is_recorded_as_it_was_before_the_stamp() {
 }
 
 #[test]
+fn a_payload_that_begins_with_its_descriptor_has_a_length_of_0() {
+    let (mut device, mut memory) = ring();
+    describe(&mut memory, 0, 64, 32, 32);
+    memory[94..96].copy_from_slice(&[0x34, 0x12]);
+    let before = memory[64..96].to_vec();
+    device.write(4, 0x100c, 1).unwrap();
+    let mut room = vec![0; 38];
+    device.work(&mut memory, &mut room).unwrap();
+    assert_eq!(room, crate::journal::line(0x8016, 0, &before));
+}
+
+#[test]
+fn the_old_payload_on_the_device() {
+    let (mut device, mut memory) = ring();
+    memory[1024..1024 + 72].copy_from_slice(&old_example());
+    describe(&mut memory, 0, 1024, 72, 72);
+    device.write(4, 0x100c, 1).unwrap();
+    let mut room = vec![0; 78];
+    device.work(&mut memory, &mut room).unwrap();
+    assert_eq!(room, crate::journal::line(0x8016, 0, &old_example()));
+    assert!(device.tables.groups.is_empty());
+}
+
+#[test]
 fn resets_empty_the_tables() {
     let (mut device, _) = ring();
-    device.tables.execute(&worked_example());
+    device.tables.obey(&worked_example());
     device.link(3, true).unwrap();
     device.write(4, 0x1014, 1).unwrap();
     assert_eq!(device.tables.groups.len(), 1);
@@ -180,7 +204,7 @@ fn fresh_link_and_header() {
     assert_eq!(device.header(&mut room[..5]), Err(Refusal::Room));
     assert_eq!(room, [9; 8]);
     assert_eq!(device.header(&mut room), Ok(6));
-    assert_eq!(room, [b'R', b'K', b'T', 1, 0, 62, 9, 9]);
+    assert_eq!(room, [b'R', b'K', b'T', 2, 0, 62, 9, 9]);
 }
 
 #[test]
@@ -265,7 +289,7 @@ fn the_console() {
         ("frame 2 -", "8 0"),
         ("frame 0x100000002 -", "7 0"),
         ("header 5", "6 -"),
-        ("header 6", "0 524b54010004"),
+        ("header 6", "0 524b54020004"),
         ("peek 256 0", "-"),
         ("peek 257 0", "!"),
         ("peek 255 2", "!"),

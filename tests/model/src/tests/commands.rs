@@ -1,5 +1,6 @@
 use super::*;
 use crate::tables::{Group, Match, Status, Tables};
+use crate::tlv::{Place, Version};
 
 const EVEN: [u8; 6] = [2, 0, 0, 0, 0, 1];
 const ODD: [u8; 6] = [3, 0, 0, 0, 0, 1];
@@ -11,7 +12,7 @@ fn tables() -> Tables {
 /// The status on empty tables of a 4-port device; any fault changes nothing.
 fn status(payload: &[u8]) -> Status {
     let mut tables = tables();
-    let status = tables.execute(payload);
+    let status = tables.obey(payload);
     if status != Status::Ok {
         assert_eq!(tables, self::tables());
     }
@@ -21,10 +22,10 @@ fn status(payload: &[u8]) -> Status {
 #[test]
 fn p12_p13_p14_the_worked_payload() {
     let mut tables = tables();
-    assert_eq!(tables.execute(&worked_example()), Status::Ok);
+    assert_eq!(tables.obey(&worked_example()), Status::Ok);
     assert_eq!(tables.groups[&0x0005_0002], Group::Port { port: 2, pop: 1 });
-    assert_eq!(tables.execute(&worked_example()), Status::Eexist);
-    assert_eq!(Tables::empty(1).execute(&worked_example()), Status::Einval);
+    assert_eq!(tables.obey(&worked_example()), Status::Eexist);
+    assert_eq!(Tables::empty(1).obey(&worked_example()), Status::Einval);
     assert_eq!(worked_example(), port_group(0x0005_0002, 1));
 }
 
@@ -123,11 +124,12 @@ fn required_fields_of_each_command() {
     for command in commands {
         assert_eq!(status(&command), Status::Ok);
         let code = u16::from_le_bytes([command[8], command[9]]);
-        let fields: Vec<(u32, Vec<u8>)> = crate::tlv::split(&command[24..])
-            .unwrap()
-            .iter()
-            .map(|tlv| (tlv.kind, tlv.value.to_vec()))
-            .collect();
+        let fields: Vec<(u32, Vec<u8>)> =
+            crate::tlv::split(&command[24..], Version::Two, Place::Info)
+                .unwrap()
+                .iter()
+                .map(|tlv| (tlv.kind, tlv.value.to_vec()))
+                .collect();
         for at in 0..fields.len() {
             let lent = |fields: &[(u32, Vec<u8>)]| {
                 let fields: Vec<(u32, &[u8])> = fields.iter().map(|(k, v)| (*k, &v[..])).collect();
@@ -184,17 +186,14 @@ fn fields_that_are_not_used_are_skipped() {
 #[test]
 fn the_times_default_to_zero_and_are_kept() {
     let mut tables = tables();
-    assert_eq!(tables.execute(&flow_0(1, 1, 1, 1, 10)), Status::Ok);
+    assert_eq!(tables.obey(&flow_0(1, 1, 1, 1, 10)), Status::Ok);
     assert_eq!(
         (tables.flows[&1].hard_time, tables.flows[&1].idle_time),
         (0, 0)
     );
     let mut flow = flow_0(2, 1, 1, 1, 10)[24..].to_vec();
     flow.extend(tlvs(&[(3, &[1, 2, 0, 0]), (4, &[3, 0, 0, 0x80])]));
-    assert_eq!(
-        tables.execute(&tlvs(&[(1, &[3, 0]), (2, &flow)])),
-        Status::Ok
-    );
+    assert_eq!(tables.obey(&tlvs(&[(1, &[3, 0]), (2, &flow)])), Status::Ok);
     assert_eq!(
         (tables.flows[&2].hard_time, tables.flows[&2].idle_time),
         (0x201, 0x8000_0003)
@@ -352,12 +351,12 @@ fn member_lists() {
 fn mod_replaces_all_but_the_key() {
     let mut tables = tables();
     assert_eq!(
-        tables.execute(&flow_50(7, 1, 5, Some(EVEN), Some(0x0005_0001), 60)),
+        tables.obey(&flow_50(7, 1, 5, Some(EVEN), Some(0x0005_0001), 60)),
         Status::Ok
     );
     let mut change = flow_0(7, 9, 1, 3, 0);
     change[8] = 4;
-    assert_eq!(tables.execute(&change), Status::Ok);
+    assert_eq!(tables.obey(&change), Status::Ok);
     assert_eq!(tables.flows.len(), 1);
     assert_eq!(
         tables.flows[&7].matching,
@@ -365,17 +364,17 @@ fn mod_replaces_all_but_the_key() {
     );
     assert_eq!((tables.flows[&7].priority, tables.flows[&7].goto), (9, 0));
     change[24 + 16 + 16 + 8] ^= 1;
-    assert_eq!(tables.execute(&change), Status::Enoent);
+    assert_eq!(tables.obey(&change), Status::Enoent);
     assert_eq!(
-        tables.execute(&list_group(8, 0x3005_0001, &[0x0005_0001])),
+        tables.obey(&list_group(8, 0x3005_0001, &[0x0005_0001])),
         Status::Enoent
     );
     assert_eq!(
-        tables.execute(&list_group(7, 0x3005_0001, &[0x0005_0001])),
+        tables.obey(&list_group(7, 0x3005_0001, &[0x0005_0001])),
         Status::Ok
     );
     assert_eq!(
-        tables.execute(&list_group(8, 0x3005_0001, &[0x0005_0002])),
+        tables.obey(&list_group(8, 0x3005_0001, &[0x0005_0002])),
         Status::Ok
     );
     let members = vec![0x0005_0002];
@@ -386,39 +385,39 @@ fn mod_replaces_all_but_the_key() {
 fn full_tables() {
     let mut tables = tables();
     for cookie in 0..256 {
-        assert_eq!(tables.execute(&flow_0(cookie, 1, 1, 1, 10)), Status::Ok);
+        assert_eq!(tables.obey(&flow_0(cookie, 1, 1, 1, 10)), Status::Ok);
     }
     // A fault, then the key, then the room.
-    assert_eq!(tables.execute(&flow_0(300, 1, 1, 1, 10)), Status::Enomem);
-    assert_eq!(tables.execute(&flow_0(255, 1, 1, 1, 10)), Status::Eexist);
-    assert_eq!(tables.execute(&flow_0(255, 1, 1, 1, 20)), Status::Einval);
+    assert_eq!(tables.obey(&flow_0(300, 1, 1, 1, 10)), Status::Enomem);
+    assert_eq!(tables.obey(&flow_0(255, 1, 1, 1, 10)), Status::Eexist);
+    assert_eq!(tables.obey(&flow_0(255, 1, 1, 1, 20)), Status::Einval);
     let mut change = flow_10(255, 1, 1, 1, None, 20);
     change[8] = 4;
-    assert_eq!(tables.execute(&change), Status::Ok);
+    assert_eq!(tables.obey(&change), Status::Ok);
     assert_eq!(
-        tables.execute(&payload(5, &[(5, &255u64.to_le_bytes())])),
+        tables.obey(&payload(5, &[(5, &255u64.to_le_bytes())])),
         Status::Ok
     );
     assert_eq!(
-        tables.execute(&payload(5, &[(5, &255u64.to_le_bytes())])),
+        tables.obey(&payload(5, &[(5, &255u64.to_le_bytes())])),
         Status::Enoent
     );
-    assert_eq!(tables.execute(&flow_0(300, 1, 1, 1, 10)), Status::Ok);
+    assert_eq!(tables.obey(&flow_0(300, 1, 1, 1, 10)), Status::Ok);
     for index in 0..128 {
         assert_eq!(
-            tables.execute(&list_group(7, 0x3005_0000 | index, &[0x0005_0001])),
+            tables.obey(&list_group(7, 0x3005_0000 | index, &[0x0005_0001])),
             Status::Ok
         );
     }
-    assert_eq!(tables.execute(&port_group(0x0005_0001, 0)), Status::Enomem);
+    assert_eq!(tables.obey(&port_group(0x0005_0001, 0)), Status::Enomem);
     assert_eq!(
-        tables.execute(&list_group(7, 0x3005_0000, &[0x0005_0001])),
+        tables.obey(&list_group(7, 0x3005_0000, &[0x0005_0001])),
         Status::Eexist
     );
     assert_eq!(
-        tables.execute(&payload(9, &[(10, &0x3005_0000u32.to_le_bytes())])),
+        tables.obey(&payload(9, &[(10, &0x3005_0000u32.to_le_bytes())])),
         Status::Ok
     );
-    assert_eq!(tables.execute(&port_group(0x0005_0001, 0)), Status::Ok);
+    assert_eq!(tables.obey(&port_group(0x0005_0001, 0)), Status::Ok);
     assert_eq!((tables.flows.len(), tables.groups.len()), (256, 128));
 }

@@ -3,11 +3,74 @@
 
 use crate::console::{bytes, number, Console, Execute};
 use crate::generate;
-use crate::journal::{self, replay};
-use crate::tables::{id_type, Match, Tables};
+use crate::journal::{self, replay, HEADER, LINE};
+use crate::misread::FIELDS;
+use crate::recount::nest;
+use crate::tables::{id_type, Match, Status, Tables, CMD_INFO, CMD_TYPE};
+use crate::tlv::{Place, Version};
+use crate::undo::line_at;
 use std::collections::BTreeMap;
 
 type Counts = BTreeMap<u64, u64>;
+
+/// Edges of lengths, as they are told.
+type Edges = BTreeMap<String, u64>;
+
+/// Counts the edges of request 2026-02 that a payload has for a device.
+fn edges_of(edges: &mut Edges, payload: &[u8]) {
+    let mut tell = |what: String| *edges.entry(what).or_default() += 1;
+    walk(payload, Place::Top, &mut tell);
+    let status = |version| Tables::empty(62).execute(payload, version);
+    if status(Version::Two) == Status::Einval && status(Version::One) != Status::Einval {
+        tell("in the old meaning".to_string());
+    }
+}
+
+/// As far as it is well formed.
+fn walk(region: &[u8], place: Place, tell: &mut dyn FnMut(String)) {
+    let mut at = 0;
+    while let Some(head) = region.get(at..at + 8) {
+        let kind = u32::from_le_bytes([head[0], head[1], head[2], head[3]]);
+        let length = usize::from(u16::from_le_bytes([head[4], head[5]]));
+        let end = at + length;
+        let listed = match place {
+            Place::Top => [CMD_TYPE, CMD_INFO].contains(&kind),
+            Place::Info => FIELDS.iter().any(|(known, _, _)| *known == kind),
+            Place::Members => true,
+        };
+        let unlisted = if listed { "" } else { ", unlisted" };
+        match length {
+            0..=7 => return tell(format!("{place:?} {length}{unlisted}")),
+            8 => tell(format!("{place:?} 8")),
+            65_519.. => tell(format!("{place:?} near 65,535")),
+            _ if end > region.len() && end < region.len() + 8 => {
+                tell(format!("{place:?} past by less than 8"))
+            }
+            _ => {}
+        }
+        if let (Some(inside), Some(value)) = (nest(place, kind), region.get(at + 8..end)) {
+            walk(value, inside, tell);
+        }
+        at = end.next_multiple_of(8);
+    }
+}
+
+/// All edges that makers aim at.
+#[track_caller]
+fn all_edges(edges: &Edges) {
+    let mut expected = vec!["in the old meaning".to_string()];
+    for place in ["Top", "Info", "Members"] {
+        let more = ["8", "near 65,535", "past by less than 8"];
+        expected.extend(more.map(|what| format!("{place} {what}")));
+        expected.extend((0..8).map(|length| format!("{place} {length}")));
+    }
+    for place in ["Top", "Info"] {
+        expected.extend((0..8).map(|length| format!("{place} {length}, unlisted")));
+    }
+    for what in expected {
+        assert!(edges.contains_key(&what), "{what} does not occur");
+    }
+}
 
 fn count(counts: &mut Counts, key: u64) {
     *counts.entry(key).or_default() += 1;
@@ -23,6 +86,7 @@ struct Seen {
     most_flows: usize,
     most_groups: usize,
     errors: u64,
+    edges: Edges,
 }
 
 impl Seen {
@@ -132,6 +196,7 @@ fn run(seed: u64, calls: u64, seen: &mut Seen) {
                     &mut seen.statuses,
                     u64::from(line[0]) | u64::from(line[1] & 0x7f) << 8,
                 );
+                edges_of(&mut seen.edges, &line[LINE..]);
                 book.worked(&line);
             }
             // Nothing is outstanding exactly if all that was posted is consumed.
@@ -175,6 +240,7 @@ fn console_scripts_reach_every_outcome() {
         seen.most_flows, seen.most_groups
     );
     println!("lines that are no calls {}", seen.errors);
+    println!("lengths {:?}", seen.edges);
     all(&seen.answers, &[0, 1, 2, 3, 4, 5, 6, 7, 8, 9]);
     all(&seen.statuses, &[0, 2, 6, 12, 17, 22, 90, 95]);
     all(&seen.copies, &[0, 1, 2, 3, 62]);
@@ -182,17 +248,89 @@ fn console_scripts_reach_every_outcome() {
     all(&seen.groups, &[0, 3, 4]);
     assert_eq!((seen.most_flows, seen.most_groups), (256, 128));
     assert!(seen.errors > 0);
+    all_edges(&seen.edges);
+}
+
+/// What trails have of the two versions.
+#[derive(Default)]
+struct Trails {
+    faults: Counts,
+    versions: Counts,
+    /// Trails that are good, by version.
+    good: Counts,
+    /// Lines of good trails that are EINVAL, but not in the other version.
+    others: u64,
+    /// Trails whose lines disagree, but not in the other version.
+    swapped: u64,
+}
+
+impl Trails {
+    fn look(&mut self, trail: &[u8]) {
+        let fault = replay(trail).map_or_else(|r| r.fault as u64, |_| 0);
+        count(&mut self.faults, fault);
+        if trail.len() < HEADER || !trail.starts_with(b"RKT") {
+            return;
+        }
+        let version = u16::from_le_bytes([trail[3], trail[4]]);
+        count(&mut self.versions, version.into());
+        let Some(known) = journal::version(trail) else {
+            return;
+        };
+        let mut other = trail.to_vec();
+        other[3] ^= 3;
+        match fault {
+            0 => count(&mut self.good, version.into()),
+            14 => self.swapped += u64::from(replay(&other).is_ok()),
+            _ => {}
+        }
+        let mut at = HEADER;
+        while let (0, Some(line)) = (fault, line_at(trail, at)) {
+            let status = |version| Tables::empty(62).execute(&line[LINE..], version);
+            let is_other =
+                status(known) == Status::Einval && status(known.other()) != Status::Einval;
+            self.others += u64::from(is_other);
+            at += line.len();
+        }
+    }
+
+    #[track_caller]
+    fn reach(&self, versions: &[u64]) {
+        println!("faults {:?}", self.faults);
+        println!("versions {:?}, good {:?}", self.versions, self.good);
+        println!(
+            "lines in the other meaning {}, trails of the other version {}",
+            self.others, self.swapped
+        );
+        all(&self.faults, &[0, 10, 11, 12, 13, 14]);
+        all(&self.versions, versions);
+        all(&self.good, &[1, 2]);
+        assert_eq!(self.good.len(), 2);
+        assert!(self.others > 0 && self.swapped > 0);
+        let total: u64 = self.versions.values().sum();
+        assert!([1, 2]
+            .iter()
+            .all(|version| self.versions[version] > total / 3));
+    }
 }
 
 #[test]
 fn trails_reach_every_fault() {
-    let mut faults = Counts::new();
-    for seed in 0..600 {
-        let fault = replay(&generate::journal(seed)).map_or_else(|r| r.fault as u64, |_| 0);
-        count(&mut faults, fault);
+    let mut trails = Trails::default();
+    for seed in 0..1_200 {
+        trails.look(&generate::journal(seed));
     }
-    println!("faults {faults:?}");
-    all(&faults, &[0, 10, 11, 12, 13, 14]);
+    trails.reach(&[
+        0, 1, 2, 3, 4, 0x0102, 0x0200, 0x0100, 0x0101, 0x0202, 65_535,
+    ]);
+}
+
+#[test]
+fn evenings_have_both_versions() {
+    let mut trails = Trails::default();
+    for seed in 0..1_200 {
+        trails.look(&generate::evening(seed).trail);
+    }
+    trails.reach(&[1, 2, 3]);
 }
 
 #[test]
@@ -201,6 +339,9 @@ fn payload_scripts_reach_every_status() {
     for seed in 0..20 {
         let mut execute = Execute::default();
         for line in generate::payloads(seed, 2_000).split('\n') {
+            if let Some(payload) = line.strip_prefix("payload ") {
+                edges_of(&mut seen.edges, &bytes(payload).unwrap());
+            }
             if let Some(printed) = execute.line(line.as_bytes()).unwrap() {
                 let code = printed.split(' ').next().unwrap_or_default();
                 count(&mut seen.statuses, number(code).unwrap());
@@ -211,6 +352,8 @@ fn payload_scripts_reach_every_status() {
         }
     }
     println!("statuses {:?}", seen.statuses);
+    println!("lengths {:?}", seen.edges);
     all(&seen.statuses, &[0, 2, 12, 17, 22, 95]);
     assert_eq!((seen.most_flows, seen.most_groups), (256, 128));
+    all_edges(&seen.edges);
 }

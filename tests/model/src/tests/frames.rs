@@ -25,7 +25,7 @@ fn device(commands: &[Vec<u8>]) -> Device {
     }
     device.write(8, 0x318, u64::MAX).unwrap();
     for command in commands {
-        assert_eq!(device.tables.execute(command), Status::Ok);
+        assert_eq!(device.tables.obey(command), Status::Ok);
     }
     device
 }
@@ -118,13 +118,13 @@ fn ports_that_are_down_or_not_enabled() {
 fn table_0_compares_under_the_mask() {
     let mut device = device(&unicast());
     // 0xfffffff1 and port 1 agree in the low three bits.
-    device.tables.execute(&flow_0(10, 1, 0xffff_fff1, 7, 0));
+    device.tables.obey(&flow_0(10, 1, 0xffff_fff1, 7, 0));
     assert!(sent(&device, 1, &frame(MAC, None)).is_empty());
-    device.tables.execute(&flow_0(11, 2, 0x99, 0, 10));
+    device.tables.obey(&flow_0(11, 2, 0x99, 0, 10));
     assert_eq!(sent(&device, 1, &frame(MAC, None)).len(), 1);
-    device.tables.execute(&flow_0(12, 0x8000_0000, 2, 1, 0));
+    device.tables.obey(&flow_0(12, 0x8000_0000, 2, 1, 0));
     assert_eq!(sent(&device, 1, &frame(MAC, None)).len(), 1);
-    device.tables.execute(&flow_0(13, 0x8000_0000, 3, 1, 0));
+    device.tables.obey(&flow_0(13, 0x8000_0000, 3, 1, 0));
     assert!(sent(&device, 1, &frame(MAC, None)).is_empty());
 }
 
@@ -134,21 +134,19 @@ fn ties_go_to_the_lower_cookie_in_every_table() {
         let mut one = device(&unicast());
         for cookie in order {
             one.tables
-                .execute(&flow_0(cookie, 5, 1, 1, if cookie == 20 { 10 } else { 0 }));
+                .obey(&flow_0(cookie, 5, 1, 1, if cookie == 20 { 10 } else { 0 }));
         }
         assert_eq!(sent(&one, 1, &frame(MAC, None)).len(), 1);
         let mut two = device(&[flow_50(1, 1, 7, None, Some(0x4007_0000), 60)]);
         for cookie in order {
             let vlan = if cookie == 20 { 7 } else { 8 };
-            two.tables
-                .execute(&flow_10(cookie, 5, 1, 0, Some(vlan), 20));
+            two.tables.obey(&flow_10(cookie, 5, 1, 0, Some(vlan), 20));
         }
-        two.tables
-            .execute(&list_group(7, 0x4007_0000, &[0x0007_0000]));
-        two.tables.execute(&port_group(0x0007_0000, 0));
+        two.tables.obey(&list_group(7, 0x4007_0000, &[0x0007_0000]));
+        two.tables.obey(&port_group(0x0007_0000, 0));
         assert_eq!(sent(&two, 1, &frame(MAC, None)), [[0, 7, 0]]);
         let mut three = device(&unicast());
-        three.tables.execute(&port_group(0x0005_0003, 0));
+        three.tables.obey(&port_group(0x0005_0003, 0));
         for cookie in order {
             let group = if cookie == 20 {
                 0x0005_0003
@@ -157,7 +155,7 @@ fn ties_go_to_the_lower_cookie_in_every_table() {
             };
             three
                 .tables
-                .execute(&flow_50(cookie, 9, 5, Some(MAC), Some(group), 60));
+                .obey(&flow_50(cookie, 9, 5, Some(MAC), Some(group), 60));
         }
         assert_eq!(sent(&three, 1, &frame(MAC, None)), [[3, 5, 0]]);
     }
@@ -171,7 +169,7 @@ fn goto_0_drops_in_every_table() {
         flow_50(9, 9, 5, Some(MAC), Some(0x0005_0002), 0),
     ] {
         let mut device = device(&unicast());
-        device.tables.execute(&replaced);
+        device.tables.obey(&replaced);
         assert!(sent(&device, 1, &frame(MAC, None)).is_empty());
     }
 }
@@ -179,14 +177,14 @@ fn goto_0_drops_in_every_table() {
 #[test]
 fn the_highest_priority_decides_even_if_it_gives_nothing() {
     let mut device = device(&unicast());
-    device.tables.execute(&flow_50(9, 2, 5, None, None, 60));
+    device.tables.obey(&flow_50(9, 2, 5, None, None, 60));
     assert!(sent(&device, 1, &frame(MAC, None)).is_empty());
     device
         .tables
-        .execute(&flow_50(10, 3, 5, Some(MAC), Some(0x0005_0004), 60));
+        .obey(&flow_50(10, 3, 5, Some(MAC), Some(0x0005_0004), 60));
     // Group 0x00050004 is only named.
     assert!(sent(&device, 1, &frame(MAC, None)).is_empty());
-    device.tables.execute(&port_group(0x0005_0004, 0));
+    device.tables.obey(&port_group(0x0005_0004, 0));
     assert_eq!(sent(&device, 1, &frame(MAC, None)), [[4, 5, 0]]);
 }
 

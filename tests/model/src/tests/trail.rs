@@ -1,5 +1,5 @@
 use super::*;
-use crate::journal::{header, line, replay, report, Fault, Refused};
+use crate::journal::{header, header_of, line, replay, report, Fault, Refused};
 use crate::tables::Status;
 
 fn trail(lines: &[Vec<u8>]) -> Vec<u8> {
@@ -17,7 +17,7 @@ fn the_worked_trail() {
     assert_eq!(trail.len(), 84);
     assert_eq!(
         trail[..12],
-        [0x52, 0x4b, 0x54, 1, 0, 4, 0, 0x80, 0x48, 0, 0, 0]
+        [0x52, 0x4b, 0x54, 2, 0, 4, 0, 0x80, 0x48, 0, 0, 0]
     );
     assert_eq!(trail[12..], worked_example());
     assert_eq!(
@@ -28,10 +28,13 @@ fn the_worked_trail() {
 
 #[test]
 fn a_header_alone() {
-    assert_eq!(
-        report(&header(62)),
-        "ports 62\nlines 0\ncharged 0\nflows 0\ngroups 0\n"
-    );
+    for header in [header(62), header_of(1, 62), header_of(2, 62)] {
+        assert_eq!(
+            report(&header),
+            "ports 62\nlines 0\ncharged 0\nflows 0\ngroups 0\n"
+        );
+    }
+    assert_eq!(header(62), header_of(2, 62));
 }
 
 #[test]
@@ -43,10 +46,13 @@ fn header_faults_in_their_order() {
     assert_eq!(fault(b"XXX\x09\x09"), (Fault::CutShort, 0));
     assert_eq!(fault(b"RKX\x09\x09\x00"), (Fault::Mark, 0));
     assert_eq!(fault(b"rKT\x01\x00\x04"), (Fault::Mark, 0));
-    assert_eq!(fault(b"RKT\x02\x00\x00"), (Fault::Version, 0));
+    assert_eq!(fault(b"RKT\x03\x00\x00"), (Fault::Version, 0));
     assert_eq!(fault(b"RKT\x01\x01\x04"), (Fault::Version, 0));
-    assert_eq!(fault(b"RKT\x01\x00\x00"), (Fault::PortCount, 0));
-    assert_eq!(fault(b"RKT\x01\x00\x3f"), (Fault::PortCount, 0));
+    for version in [1, 2] {
+        for ports in [0, 63] {
+            assert_eq!(fault(&header_of(version, ports)), (Fault::PortCount, 0));
+        }
+    }
     // A header fault hides what follows.
     assert_eq!(report(b"RKT\x01\x00\x3f\x01"), "refused 13 line 0\n");
 }
@@ -84,7 +90,7 @@ fn cut_before_disagreeing_and_the_first_line_first() {
 fn long_payloads() {
     let body = |length: usize| {
         let mut body = worked_example();
-        body.extend([99, 0, 0, 0, 0, 0, 0, 0].repeat(8_192));
+        body.extend([99, 0, 0, 0, 8, 0, 0, 0].repeat(8_192));
         body.truncate(length);
         body
     };

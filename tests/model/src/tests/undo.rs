@@ -1,5 +1,6 @@
 use super::*;
-use crate::journal::{header, line};
+use crate::journal::{header, header_of, line};
+use crate::recount::older;
 use crate::undo::check::{by_console, check, stress, LONGEST_LIST};
 use crate::undo::{post, undo, Refusal};
 
@@ -30,9 +31,9 @@ fn the_worked_example_is_deleted() {
     let trail = trail(4, &[worked_example()]);
     let expected = concat!(
         "2800",
-        "01000000020000000900000000000000",
-        "0200000010000000",
-        "0a000000040000000200050000000000",
+        "010000000a0000000900000000000000",
+        "0200000018000000",
+        "0a0000000c0000000200050000000000",
     );
     assert_eq!(list(&trail, 0), Ok(expected.to_string()));
     assert_eq!(list(&trail, 1), Ok("-".to_string()));
@@ -45,11 +46,11 @@ fn it_is_added_again_as_it_was() {
     // The same fields in rising type: OUT_PPORT stands before GROUP_ID.
     let expected = concat!(
         "4800",
-        "01000000020000000700000000000000",
-        "0200000030000000",
-        "08000000040000000200000000000000",
-        "0a000000040000000200050000000000",
-        "2b000000010000000100000000000000",
+        "010000000a0000000700000000000000",
+        "0200000038000000",
+        "080000000c0000000200000000000000",
+        "0a0000000c0000000200050000000000",
+        "2b000000090000000100000000000000",
     );
     assert_eq!(list(&trail, 1), Ok(expected.to_string()));
 }
@@ -59,18 +60,78 @@ fn a_flow_has_both_times() {
     let trail = trail(4, &[flow_0(7, 1, 2, 3, 10), del_flow(7)]);
     let expected = concat!(
         "9800",
-        "01000000020000000300000000000000",
-        "0200000080000000",
-        "01000000020000000000000000000000",
-        "02000000040000000100000000000000",
-        "03000000040000000000000000000000",
-        "04000000040000000000000000000000",
-        "05000000080000000700000000000000",
-        "06000000040000000200000000000000",
-        "07000000040000000300000000000000",
-        "09000000020000000a00000000000000",
+        "010000000a0000000300000000000000",
+        "0200000088000000",
+        "010000000a0000000000000000000000",
+        "020000000c0000000100000000000000",
+        "030000000c0000000000000000000000",
+        "040000000c0000000000000000000000",
+        "05000000100000000700000000000000",
+        "060000000c0000000200000000000000",
+        "070000000c0000000300000000000000",
+        "090000000a0000000a00000000000000",
     );
     assert_eq!(list(&trail, 1), Ok(expected.to_string()));
+}
+
+/// The same lines in a trail of version 1.
+fn old_trail(ports: u8, payloads: &[Vec<u8>]) -> Vec<u8> {
+    let old: Vec<Vec<u8>> = payloads.iter().map(|one| older(one)).collect();
+    [header_of(1, ports), trail(ports, &old)[6..].to_vec()].concat()
+}
+
+#[test]
+fn a_trail_of_version_1_has_the_list_that_a_device_obeys() {
+    let night = [
+        worked_example(),
+        list_group(7, 0x3005_0000, &[0x0005_0002, 0x0005_0009]),
+        flow_0(7, 1, 2, 3, 10),
+        del_group(0x0005_0002),
+        list_group(8, 0x3005_0000, &[0x0005_0009]),
+        del_flow(7),
+    ];
+    let (old, new) = (old_trail(4, &night), trail(4, &night));
+    assert_eq!(old[12..84], old_example());
+    for n in 0..=6 {
+        assert_eq!(list(&old, n), list(&new, n));
+        assert!(check(&old, n).is_ok_and(|checked| checked.is_ok()));
+        assert_eq!(by_console(&old, n), Ok(()));
+    }
+    assert_eq!(list(&old, 7), Err(Refusal::Count));
+    // Read with the other meaning, neither is good.
+    for (mut trail, version) in [(old, 2), (new, 1)] {
+        trail[3] = version;
+        let refused = list(&trail, 0).map_err(|refusal| refusal.to_string());
+        assert_eq!(refused, Err("refused 14 line 1".to_string()));
+    }
+}
+
+#[test]
+fn a_script_makes_a_trail_of_version_1_anew() {
+    let mut night = vec![
+        worked_example(),
+        list_group(7, 0x3005_0000, &[0x0005_0002, 0x0005_0009]),
+        // At the end 4 bytes are no header.
+        [worked_example(), vec![1; 4]].concat(),
+    ];
+    // A length that goes far past the end.
+    night.push([&worked_example()[..], &[9, 9, 9, 9, 0xff, 0xff, 0, 0]].concat());
+    let old: Vec<Vec<u8>> = night.iter().map(|one| older(one)).collect();
+    let lines = |payloads: &[Vec<u8>]| -> Vec<u8> {
+        let stamped = [0x8000, 0x8000, 0x8016, 0x8016].into_iter().zip(payloads);
+        let lines = (0..).zip(stamped);
+        lines
+            .flat_map(|(k, (stamp, one))| line(stamp, k, one))
+            .collect()
+    };
+    let trail = [header_of(1, 4), lines(&old)].concat();
+    let script = post::script(&trail).unwrap();
+    assert_eq!(
+        post::trail(script.as_bytes()),
+        [header(4), lines(&night)].concat()
+    );
+    assert!(post::script(&trail[..trail.len() - 1]).is_err());
+    assert!(post::script(&header_of(3, 4)).is_err());
 }
 
 #[test]
@@ -139,7 +200,7 @@ fn more_lines_than_the_ring_has_slots() {
     let mut tables = crate::tables::Tables::empty(4);
     let lines = night
         .iter()
-        .map(|one| line(tables.execute(one).stamp(), 0, one));
+        .map(|one| line(tables.obey(one).stamp(), 0, one));
     let trail = [header(4), lines.flatten().collect()].concat();
     for n in [0, 1, 1_500, 3_000] {
         assert_eq!(by_console(&trail, n), Ok(()));
@@ -185,6 +246,8 @@ fn a_list_behind_a_script_that_left_its_ring_in_use() {
 fn stress_of_a_few_seeds() {
     let met = stress(0, 64).unwrap();
     for what in [
+        "trails of version 1",
+        "trails of version 2",
         "empty lists",
         "flows in another table",
         "by the console",

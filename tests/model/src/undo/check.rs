@@ -2,9 +2,9 @@
 
 use super::{first_lines, post, undo, Refusal};
 use crate::generate::{self, Evening};
-use crate::journal::{line, replay, Replayed};
+use crate::journal::{self, line, replay, Replayed};
 use crate::tables::{field, Status, Tables};
-use crate::tlv::{split, Tlv};
+use crate::tlv::{split, Place, Tlv, Version};
 use std::collections::BTreeMap;
 
 /// The longest list: each place of both tables is freed and filled again, with the longest entries there are.
@@ -18,7 +18,9 @@ pub struct Checked {
     pub then: Tables,
 }
 
-/// The list that leads back to the first n lines, carried out after the whole trail. `Ok(Err(..))` is a refusal, `Err(..)` a failure.
+/// The list that leads back to the first n lines, carried out after the whole trail, on a device. `Ok(Err(..))` is a refusal, `Err(..)` a
+/// failure. Behind a trail of version 1 the list's lines would be read with another meaning: there they stand behind the same trail as a
+/// device writes it now, which has the same list.
 pub fn check(trail: &[u8], n: u64) -> Result<Result<Checked, Refusal>, String> {
     let mut room = vec![0; LONGEST_LIST];
     let told = undo(trail, n, &mut room);
@@ -41,7 +43,12 @@ pub fn check(trail: &[u8], n: u64) -> Result<Result<Checked, Refusal>, String> {
     }
     order(&payloads)?;
     carry_out(&payloads, now.tables.clone(), &then.tables)?;
-    let longer = lines_behind(trail, &payloads);
+    let night = post::newer(trail)?;
+    let mut again = vec![0; room.len()];
+    if undo(&night, n, &mut again) != Ok(room.len()) || again != room {
+        return Err("the trail as it is written now has another list".to_string());
+    }
+    let longer = lines_behind(&night, &payloads);
     replays(&good(&longer)?, &now, payloads.len(), &then.tables)?;
     // Then the tables are those of the first n lines, and nothing leads back.
     match undo(&longer, n, &mut []) {
@@ -63,7 +70,7 @@ pub fn same(a: &Tables, b: &Tables) -> bool {
 /// Each payload completes OK, and the tables of then stand at the end.
 fn carry_out(payloads: &[&[u8]], mut tables: Tables, then: &Tables) -> Result<(), String> {
     for (k, payload) in payloads.iter().enumerate() {
-        let status = tables.execute(payload);
+        let status = tables.obey(payload);
         if status != Status::Ok {
             return Err(format!("payload {} completes with {status:?}", k + 1));
         }
@@ -138,10 +145,11 @@ fn order(payloads: &[&[u8]]) -> Result<(), String> {
 
 /// The fields that each form has, in rising type, and nothing but zeros between them.
 fn has_form(payload: &[u8]) -> bool {
-    let Some([code, info]) = split(payload).and_then(|top| <[Tlv; 2]>::try_from(top).ok()) else {
+    let top = split(payload, Version::DEVICE, Place::Top);
+    let Some([code, info]) = top.and_then(|top| <[Tlv; 2]>::try_from(top).ok()) else {
         return false;
     };
-    let Some(fields) = split(info.value) else {
+    let Some(fields) = split(info.value, Version::DEVICE, Place::Info) else {
         return false;
     };
     let kinds: Vec<u32> = fields.iter().map(|tlv| tlv.kind).collect();
@@ -167,15 +175,18 @@ fn has_form(payload: &[u8]) -> bool {
         expected.extend(optional.iter().filter(|kind| kinds.contains(kind)));
         expected.sort();
     }
-    kinds == expected && zeros_between(payload) && zeros_between(info.value)
+    kinds == expected
+        && zeros_between(payload, Place::Top)
+        && zeros_between(info.value, Place::Info)
+        && zeros_between(first(field::GROUP_IDS), Place::Members)
 }
 
 /// Whether pads and fill of a well formed region are 0.
-fn zeros_between(region: &[u8]) -> bool {
+fn zeros_between(region: &[u8], place: Place) -> bool {
     let mut again = Vec::new();
-    for tlv in split(region).unwrap_or_default() {
+    for tlv in split(region, Version::DEVICE, place).unwrap_or_default() {
         again.extend(tlv.kind.to_le_bytes());
-        again.extend((tlv.value.len() as u64).to_le_bytes()[..4].iter());
+        again.extend((tlv.value.len() as u32 + 8).to_le_bytes());
         again.extend(tlv.value);
         again.resize(again.len().next_multiple_of(8), 0);
     }
@@ -184,8 +195,8 @@ fn zeros_between(region: &[u8]) -> bool {
 
 /// The run, from 0 to 5, and the key of a payload.
 fn place(payload: &[u8]) -> Option<(usize, u64)> {
-    let top = split(payload)?;
-    let info = split(top.get(1)?.value)?;
+    let top = split(payload, Version::DEVICE, Place::Top)?;
+    let info = split(top.get(1)?.value, Version::DEVICE, Place::Info)?;
     let code = u16::from(*top[0].value.first()?);
     let run = [5, 9, 4, 8, 3, 7].iter().position(|known| *known == code)?;
     let kind = if code < 6 {
@@ -204,7 +215,7 @@ fn place(payload: &[u8]) -> Option<(usize, u64)> {
 
 /// The same by the console: the night's script, the list behind it, and the trail of both.
 pub fn by_console(trail: &[u8], n: u64) -> Result<(), String> {
-    let script = post::script(trail).ok_or("the trail is cut")?;
+    let script = post::script(trail)?;
     let night = post::trail(script.as_bytes());
     let mut room = vec![0; LONGEST_LIST];
     let length = undo(&night, n, &mut room).map_err(|refusal| refusal.to_string())?;
@@ -261,6 +272,12 @@ fn one(seed: u64, met: &mut Met) -> Result<(), String> {
     let now = replay(trail).map(|done| done.tables);
     let with_rooms = seed as usize / 16 % numbers.len();
     *met.entry("trails").or_default() += 1;
+    *met.entry(match journal::version(trail) {
+        Some(Version::One) => "trails of version 1",
+        Some(Version::Two) => "trails of version 2",
+        None => "trails of no known version",
+    })
+    .or_default() += 1;
     for (k, n) in numbers.into_iter().enumerate() {
         let failed = |failure| format!("n {n}: {failure}");
         let checked = check(trail, n).map_err(failed)?;

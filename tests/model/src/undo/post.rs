@@ -3,7 +3,9 @@
 use super::line_at;
 use crate::console::{bytes, hex, number, Console, MEMORY_LIMIT, ROOM_LIMIT};
 use crate::journal::{self, HEADER, LINE, LONGEST};
+use crate::recount;
 use crate::tables::Status;
+use crate::tlv::Version;
 use std::fmt::Write as _;
 
 /// The ring: its descriptors stand from address 0 on, the payloads behind them.
@@ -43,23 +45,49 @@ pub fn behind(script: &[u8], payloads: &[&[u8]]) -> Vec<u8> {
     out
 }
 
-/// A script whose device makes this trail, slots aside; `None` if the trail is cut short.
-pub fn script(trail: &[u8]) -> Option<String> {
-    let ports = trail.get(HEADER - 1)?;
-    let (mut slots, mut at) = (Vec::new(), HEADER);
+/// A script whose device makes this trail, slots aside. One of version 1 is made as a device writes it now: with version 2 in its header, and
+/// in every payload, well formed or not, lengths that count 8 more. Why there is no script, where the trail is cut or of no known version.
+pub fn script(trail: &[u8]) -> Result<String, String> {
+    let trail = newer(trail)?;
+    let slots: Vec<(Status, &[u8])> = lines(&trail)?
+        .into_iter()
+        .map(|line| {
+            let stamp = u16::from_le_bytes([line[0], line[1]]);
+            let fault = [Status::Enxio, Status::Emsgsize]
+                .into_iter()
+                .find(|fault| fault.stamp() == stamp);
+            (fault.unwrap_or(Status::Ok), &line[LINE..])
+        })
+        .collect();
+    let ring = format!(
+        "memory {MEMORY_LIMIT}\nfresh {} 1\nwrite 8 0x1000 0\nwrite 4 0x1008 {SIZE}\n",
+        trail[HEADER - 1]
+    );
+    Ok(ring + &posting(&slots))
+}
+
+fn lines(trail: &[u8]) -> Result<Vec<&[u8]>, String> {
+    let (mut lines, mut at) = (Vec::new(), HEADER);
     while at < trail.len() {
-        let line = line_at(trail, at)?;
-        let stamp = u16::from_le_bytes([line[0], line[1]]);
-        let fault = [Status::Enxio, Status::Emsgsize]
-            .into_iter()
-            .find(|fault| fault.stamp() == stamp);
-        slots.push((fault.unwrap_or(Status::Ok), &line[LINE..]));
+        let line = line_at(trail, at).ok_or("the trail is cut short")?;
+        lines.push(line);
         at += line.len();
     }
-    let ring = format!(
-        "memory {MEMORY_LIMIT}\nfresh {ports} 1\nwrite 8 0x1000 0\nwrite 4 0x1008 {SIZE}\n"
-    );
-    Some(ring + &posting(&slots))
+    Ok(lines)
+}
+
+/// A trail as a device writes it now: the same lines, which do the same.
+pub fn newer(trail: &[u8]) -> Result<Vec<u8>, String> {
+    let header = trail.get(..HEADER).ok_or("the trail is cut short")?;
+    if journal::version(trail).ok_or("the trail's version is not known")? == Version::DEVICE {
+        return Ok(trail.to_vec());
+    }
+    let mut out = journal::header_of(Version::DEVICE as u16, header[HEADER - 1]);
+    for line in lines(trail)? {
+        out.extend(&line[..LINE]);
+        out.extend(recount::newer(&line[LINE..]));
+    }
+    Ok(out)
 }
 
 /// Posts slots in batches that ring and memory hold, and works each off. A slot has its payload, or the fault that leaves none.

@@ -5,8 +5,11 @@ use super::{
     entries, first_lines, line_at, list as right_list, payloads as right_payloads, Action, Entries,
     Fields, Key, Refusal, Step,
 };
-use crate::journal::{replay, HEADER, LINE};
+use crate::journal::{self, replay, HEADER, LINE};
+use crate::recount::{nest, recount};
 use crate::tables::{field, id_type, Status, Tables};
+use crate::tlv::{split, Place, Version};
+use std::borrow::Cow;
 use std::collections::BTreeSet;
 
 /// Refusals in another order.
@@ -81,6 +84,30 @@ pub fn result(payloads: &[Vec<u8>], room: &mut [u8], length: usize) -> usize {
         _ => {}
     }
     length
+}
+
+/// A trail whose version is taken for another one.
+pub fn version(trail: &[u8]) -> Cow<'_, [u8]> {
+    let Some([low, high]) = trail.get(3..5) else {
+        return trail.into();
+    };
+    let other = match u16::from_le_bytes([*low, *high]) {
+        1 if misread(L::UndoVersion1New) => 2,
+        1 if misread(L::UndoVersion1Refused) => 0,
+        2 if misread(L::UndoVersion2Old) => 1,
+        2 if misread(L::UndoVersion2Refused) => 0,
+        3 if misread(L::UndoVersion3) => 2,
+        version if misread(L::UndoVersionLow) => version & 0xff,
+        _ => return trail.into(),
+    };
+    let mut trail = trail.to_vec();
+    trail[3..5].copy_from_slice(&u16::to_le_bytes(other));
+    trail.into()
+}
+
+/// Whether a good trail is refused for its version.
+pub fn too_old(trail: &[u8]) -> bool {
+    misread(L::UndoVersion1Is15) && journal::version(trail) == Some(Version::One)
 }
 
 /// The part of a trail that is looked at.
@@ -192,7 +219,10 @@ fn touched(trail: &[u8], n: u64) -> BTreeSet<Key> {
     for line in whole_lines(trail).into_iter().skip(n as usize) {
         let before = tables.clone();
         if line[..2] == Status::Ok.stamp().to_le_bytes() {
-            tables.execute(&line[LINE..]);
+            tables.execute(
+                &line[LINE..],
+                journal::version(trail).unwrap_or(Version::DEVICE),
+            );
         }
         let flows = before.flows.keys().chain(tables.flows.keys());
         let flows = flows.filter(|key| before.flows.get(key) != tables.flows.get(key));
@@ -489,7 +519,7 @@ pub fn top(step: &Step, top: &mut Fields) {
 
 /// The fill behind the last TLV of a region.
 fn last_fill(region: &[u8]) -> usize {
-    let tlvs = crate::tlv::split(region).unwrap_or_default();
+    let tlvs = split(region, Version::DEVICE, Place::Info).unwrap_or_default();
     tlvs.last().map_or(0, |tlv| {
         tlv.value.len().next_multiple_of(8) - tlv.value.len()
     })
@@ -502,8 +532,7 @@ pub fn tlv(out: &mut Vec<u8>, start: usize, length: usize) {
     let mut told =
         |length: usize| out[start + 4..start + 6].copy_from_slice(&(length as u16).to_le_bytes());
     match () {
-        _ if misread(L::UndoTlvLengthWithHead) => told(length + 8),
-        _ if misread(L::UndoTlvLengthFilled) => told(filled),
+        _ if misread(L::UndoTlvLengthFilled) => told(filled + 8),
         _ if misread(L::UndoFillMissing) => out.truncate(end),
         _ if misread(L::UndoFillTo4) => out.truncate(end.next_multiple_of(4)),
         _ if misread(L::UndoFillOnes) => out[end..].fill(0xff),
@@ -512,6 +541,34 @@ pub fn tlv(out: &mut Vec<u8>, start: usize, length: usize) {
         _ => {}
     }
 }
+
+/// Lengths that do not count the header: in some regions, or in all.
+pub fn payloads(payloads: &mut [Vec<u8>], trail: &[u8]) {
+    let version_1 = journal::version(trail) == Some(Version::One);
+    let old = |place: Place, kind: u32| match chosen() {
+        Some(L::UndoTlvLengthOfValue) => true,
+        Some(L::UndoTlvLengthOfTrail) => version_1,
+        Some(L::UndoTopOld) => place == Place::Top,
+        Some(L::UndoInfoOld) => place == Place::Info,
+        Some(L::UndoMembersOld) => place == Place::Members,
+        Some(L::UndoNestOld) => nest(place, kind).is_some(),
+        _ => false,
+    };
+    if chosen().is_some_and(|label| OLD.contains(&label)) {
+        for payload in payloads {
+            recount(payload, Place::Top, Version::Two, &old);
+        }
+    }
+}
+
+const OLD: [L; 6] = [
+    L::UndoTlvLengthOfValue,
+    L::UndoTlvLengthOfTrail,
+    L::UndoTopOld,
+    L::UndoInfoOld,
+    L::UndoMembersOld,
+    L::UndoNestOld,
+];
 
 /// The list in another form.
 pub fn list(payloads: &[Vec<u8>]) -> Option<Vec<u8>> {
@@ -526,6 +583,7 @@ pub fn list(payloads: &[Vec<u8>]) -> Option<Vec<u8>> {
     };
     let behind = |length: &[u8], payload: &[u8]| [length, payload].concat();
     match chosen()? {
+        L::UndoLengthTakesHead => each(&|p, n| behind(&(n + 8).to_le_bytes(), p)),
         L::UndoLengthWithItself => each(&|p, n| behind(&(n + 2).to_le_bytes(), p)),
         L::UndoLengthBigEndian => each(&|p, n| behind(&n.to_be_bytes(), p)),
         L::UndoLength4Bytes => each(&|p, n| behind(&u32::from(n).to_le_bytes(), p)),
