@@ -17,11 +17,11 @@ static void little(uint8_t *to, uint64_t value, unsigned width)
         to[i] = (uint8_t)(value >> 8 * i);
 }
 
-/* One TLV: type, length of the value, pad, the value, filled up to 8. */
+/* One TLV: type, length of these 8 bytes and the value, pad, the value, filled up to 8. */
 static uint8_t *tlv(uint8_t *at, uint32_t type, const void *value, uint16_t width)
 {
     little(at, type, 4);
-    little(at + 4, width, 2);
+    little(at + 4, 8u + width, 2);
     memcpy(at + 8, value, width);
     return at + 8 + (width + 7) / 8 * 8;
 }

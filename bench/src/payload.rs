@@ -7,9 +7,10 @@ pub const GROUP_ADD: u16 = 7;
 pub const GROUP_DEL: u16 = 9;
 pub const VLAN: u16 = 5;
 
+// A TLV's length counts the eight bytes in front of its value.
 fn tlv(kind: u32, value: &[u8]) -> Vec<u8> {
     let mut bytes = kind.to_le_bytes().to_vec();
-    bytes.extend((value.len() as u16).to_le_bytes());
+    bytes.extend((8 + value.len() as u16).to_le_bytes());
     bytes.extend([0, 0]);
     bytes.extend(value);
     bytes.resize(bytes.len().next_multiple_of(8), 0);
@@ -118,7 +119,7 @@ pub fn descriptor(at: u64, length: usize) -> [u8; 32] {
 /// A journal of so many records on a switch with 250 flows: of ten changes six are mods, each to another priority, two a del and the add after
 /// it, one an add that is refused (EEXIST) and one a del that is refused (ENOENT).
 pub fn journal(records: u64) -> Vec<u8> {
-    let mut bytes = b"RKT\x01\x00\x3e".to_vec();
+    let mut bytes = b"RKT\x02\x00\x3e".to_vec();
     let mut count = 0;
     let mut put = |status: u16, payload: Vec<u8>| {
         bytes.extend((0x8000 | status).to_le_bytes());

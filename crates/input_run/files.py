@@ -7,7 +7,7 @@ import sys
 sys.dont_write_bytecode = True
 here = pathlib.Path(__file__).parent
 sys.path.insert(0, str(here.parent / "replay_run"))
-from cases import EINVAL, EEXIST, OK, flow, flow_del, group, group_del, header, record, said_of
+from cases import EINVAL, EEXIST, OK, flood, flow, flow_del, group, group_del, header, journal, record, said_of
 
 BUFFER = 65536  # one read of replay
 
@@ -35,8 +35,15 @@ def over_long():
     return header() + record(OK, group(7)) + record(EINVAL, noise(9000), 1) + record(OK, group_del(), 2)
 
 
+def version_1():
+    """The version is that of every record, whichever read has brought it."""
+    return journal(1, *[(OK, flow(3, k)) for k in range(9)], (OK, group(7)), (OK, flood(7, 1, 2, 3)), (EINVAL, noise(4096)), (OK, flood(8, 3)),
+                   (EEXIST, group(7)), (OK, group_del()), (OK, flow_del(3)))
+
+
 FILES = {
     "long.trail": long(),
+    "version-1.trail": version_1(),
     "over-long.trail": over_long(),
     "over-long-cut.trail": over_long()[:-len(record(OK, group_del())) - 1],
 }

@@ -1,53 +1,65 @@
 #!/usr/bin/env python3
 """cases.py MODEL: writes the journals that replay_run reads (stdin) and, by another implementation of the rules, what it has to
 print (stdout). MODEL is the command of that implementation: `MODEL replay FILE` prints the lines of one journal, and
-`MODEL generate-journal SEED` writes one."""
+`MODEL generate-journal SEED` writes one. A payload is its TLVs as (type, value); its bytes are those of the journal's version."""
+import collections
 import pathlib
 import struct
 import subprocess
 import sys
 import tempfile
 
-here = pathlib.Path(__file__).parent
+sys.dont_write_bytecode = True
+here = pathlib.Path(__file__).resolve().parent
+sys.path.append(str(here.parents[1] / "tests"))
+from tlvs import HEADER_OF, in_two_meanings, of_version, region, tlv, with_length
+
 OK, ENOENT, ENXIO, ENOMEM, EEXIST, EINVAL, EMSGSIZE, ENOTSUP = 0, 2, 6, 12, 17, 22, 90, 95
 ROOM = 65536  # what the program reads at most
 
-# Seeds of short journals: valid ones, cut ones, those with a fault in the header, and those of which a record disagrees.
-SEEDS = (3, 7, 9, 10, 11, 14, 18, 32, 36, 42, 48, 57, 71, 86, 20, 27, 35, 67, 94, 101, 111, 131, 53, 148, 29, 41, 50, 74, 123,
-         6, 39, 44, 46, 69, 76, 91, 122, 125, 137, 188, 222)
-
-
-def tlv(kind, value):
-    return struct.pack("<IHH", kind, len(value), 0) + value + bytes(-len(value) % 8)
+# Of the journals that MODEL generates by the seeds below SEEDS: for each answer and version the first EACH that have at most SHORT bytes.
+EACH, SHORT, SEEDS = 3, 600, 400
 
 
 def command(kind, *fields):
-    return tlv(1, struct.pack("<H", kind)) + tlv(2, b"".join(fields))
+    return [(1, struct.pack("<H", kind)), (2, list(fields))]
 
 
 def flow(kind, cookie, priority=1, table=0):
-    return command(kind, tlv(1, struct.pack("<H", table)), tlv(2, struct.pack("<I", priority)), tlv(5, struct.pack("<Q", cookie)),
-                   tlv(6, struct.pack("<I", 1)), tlv(7, struct.pack("<I", 0xFFFFFFFF)), tlv(9, struct.pack("<H", 10)))
+    return command(kind, (1, struct.pack("<H", table)), (2, struct.pack("<I", priority)), (5, struct.pack("<Q", cookie)),
+                   (6, struct.pack("<I", 1)), (7, struct.pack("<I", 0xFFFFFFFF)), (9, struct.pack("<H", 10)))
 
 
 def flow_del(cookie):
-    return command(5, tlv(5, struct.pack("<Q", cookie)))
+    return command(5, (5, struct.pack("<Q", cookie)))
 
 
 def group(kind, id=0x00050002, port=2):
-    return command(kind, tlv(10, struct.pack("<I", id)), tlv(8, struct.pack("<I", port)), tlv(43, b"\1"))
+    return command(kind, (10, struct.pack("<I", id)), (8, struct.pack("<I", port)), (43, b"\1"))
+
+
+def flood(kind, *ports):
+    """The group 1 of type 4 of VLAN 5, with these ports."""
+    ids = [(k, struct.pack("<I", 5 << 16 | port)) for k, port in enumerate(ports, 1)]
+    return command(kind, (10, struct.pack("<I", 4 << 28 | 5 << 16 | 1)), (12, struct.pack("<H", len(ids))), (13, ids))
 
 
 def group_del(id=0x00050002):
-    return command(9, tlv(10, struct.pack("<I", id)))
+    return command(9, (10, struct.pack("<I", id)))
 
 
-def record(status, payload=b"", slot=0, bit=0x8000, length=None):
-    return struct.pack("<HHH", bit | status, len(payload) if length is None else length, slot) + payload
+def record(status, payload=b"", slot=0, bit=0x8000, length=None, version=2):
+    data = of_version(payload, version)
+    return struct.pack("<HHH", bit | status, len(data) if length is None else length, slot) + data
 
 
-def header(ports=4, mark=b"RKT", version=1):
+def header(ports=4, mark=b"RKT", version=2):
     return mark + struct.pack("<HB", version, ports)
+
+
+def journal(version, *told):
+    """A journal of that version; of each record the status and the payload."""
+    return header(version=version) + b"".join(record(status, payload, k, version=version) for k, (status, payload) in enumerate(told))
 
 
 def full():
@@ -57,11 +69,86 @@ def full():
             record(EEXIST, group(7, ids[0]), 129) + record(OK, group_del(ids[5]), 130) + record(OK, group(7, ids[128]), 131))
 
 
+def versions():
+    """1 and 2 are known, no other number; for both the rest of the header is the same."""
+    for version in (0, 3, 0x0100, 0x0101, 0x0102, 0x0200, 0x0201, 0xFFFF):
+        yield header(version=version)
+    for version in (1, 2):
+        for ports in (0, 1, 62, 63):
+            yield header(ports, version=version)
+        yield header(version=version)[:5]
+        yield header(mark=b"RKX", version=version)
+
+
+def in_both():
+    """Journals that come to the same in either version: valid, cut in a payload and in the first bytes of a record, disagreeing."""
+    told = [(OK, group(7)), (EEXIST, group(7)), (OK, flood(7, 1, 2, 3)), (OK, flood(8, 3, 1)), (OK, flow(3, 7)), (OK, flow(4, 7, 9)),
+            (ENOENT, flow_del(8)), (ENOTSUP, command(6)), (ENOTSUP, flow(3, 1, table=60)), (EINVAL, b""), (EINVAL, b"\0"), (ENXIO, b""),
+            (EMSGSIZE, b""), (OK, group_del())]
+    for version in (1, 2):
+        yield journal(version, *told)
+        yield journal(version, *told[:2])[:-1]
+        yield journal(version, *told[:1], (ENXIO, b""))[:-1]
+        yield journal(version, *told[:1], *told[:1])
+        yield journal(version, *told[:1], (EINVAL, flow_del(8)))
+
+
+def other_meaning():
+    """Payloads with the lengths of the other version are ill formed: recorded as EINVAL they agree, as OK they disagree."""
+    for version, other in ((1, 2), (2, 1)):
+        ill = [of_version(payload, other) for payload in (group(7), flood(7, 1, 2), flow(3, 7), flow_del(7))]
+        yield journal(version, (OK, group(7)), *[(EINVAL, payload) for payload in ill])
+        for payload in ill:
+            yield journal(version, (OK, payload))
+
+
+def nested(kind, *headers):
+    """A flood to ports 1 and 2 with the meanings of the top, of CMD_INFO and of GROUP_IDS chosen apart."""
+    (_, command_type), (_, ((_, id), (_, count), (_, ids))) = flood(kind, 1, 2)
+    top, info, members = headers
+    return region([(1, command_type), (2, region([(10, id), (12, count), (13, region(ids, members))], info))], top)
+
+
+def all_regions():
+    """A version's meaning is that of all its regions: of eight floods one is well formed, the first or the last."""
+    for version in (1, 2):
+        own = HEADER_OF[version]
+        choices = [(top, info, members) for top in (0, 8) for info in (0, 8) for members in (0, 8)]
+        yield journal(version, *[(OK if choice == (own,) * 3 else EINVAL, nested(7, *choice)) for choice in choices])
+        yield journal(version, (OK, nested(7, own, own, 8 - own)))
+        yield journal(version, (OK, nested(7, own, 8 - own, own)))
+
+
+def shortest():
+    """A TLV without value is skipped where its type is not listed: length 0 in version 1, 8 in version 2, where 0 and 7 are ill formed. In
+    version 1 the lengths 7 and 8 are those of values, which have to be there."""
+    for version, statuses in ((1, (EEXIST, EINVAL, EINVAL, EINVAL)), (2, (EINVAL, EINVAL, EEXIST, EINVAL))):
+        own, change = HEADER_OF[version], of_version(group(7), version)
+        alone = [(status, change + with_length(99, length)) for status, length in zip(statuses, (0, 7, 8, 9))]
+        filled = [(EEXIST, change + tlv(99, bytes(size), own)) for size in (7, 8)]
+        yield journal(version, (OK, [(99, b""), *group(7), (99, b"")]), *alone, *filled, (EINVAL, change + with_length(99, own + 9, bytes(8))))
+        yield journal(version, (OK, command(7, (99, b""), *group(7)[1][1], (99, b""))), (EINVAL, command(9, (10, b""))))
+    yield journal(2, (OK, group(7)), (EEXIST, of_version(group(7), 2) + with_length(99, 0)))
+    yield journal(1, (OK, group(7)), (EEXIST, of_version(group(7), 1) + with_length(99, 8)))
+
+
+def read_twice():
+    """The same records, in either version: a flow or a group, and the flow or the group once more."""
+    both = in_two_meanings(flow(3, 7), group(7))
+    for version, again in ((1, flow(3, 7)), (2, group(7))):
+        yield journal(version, (OK, both))
+        yield journal(version, (OK, both), (EEXIST, both), (EEXIST, again))
+    yield journal(1, (OK, both), (EEXIST, group(7)))
+    yield journal(2, (OK, both), (EEXIST, flow(3, 7)))
+
+
 def cases():
     change = header() + record(OK, group(7))
     long = bytes(4097)
-    most = bytes(4096)
+    most = [(99, bytes(4088))]
+    # the trail of request 2026-02, and that of document 01
     yield change
+    yield journal(1, (OK, group(7)))
     # the header, and where it is cut
     for n in range(6):
         yield change[:n]
@@ -72,15 +159,12 @@ def cases():
     yield header(255)
     yield header(4, b"RKX")
     yield header(4, b"rkt")
-    yield header(4, b"XKT", 2)
-    yield header(0, b"RKT", 2)
-    yield header(4, b"RKT", 0x0101)
-    yield header(4, b"RKT", 0)
+    yield header(4, b"XKT", 3)
+    yield header(0, b"RKT", 3)
     # too short for a header, and another mark
     yield header(4, b"RKX")[:5]
     yield header(4, b"XKT")[:3]
-    yield header(4, b"RKT", 2)
-    yield header(63, b"RKT", 2)
+    yield header(63, b"RKT", 3)
     # cut at each kind of place: in the first six bytes, behind them, in the payload, one byte short
     for n in (7, 8, 9, 10, 11, 12, 13, 50, 83):
         yield change[:n]
@@ -120,8 +204,9 @@ def cases():
     yield header() + record(OK, group_del()) + b"\0"
     yield header(0) + record(OK, group_del())
     yield full()
-    for seed in SEEDS:
-        yield model("generate-journal", str(seed))
+    for some in (versions, in_both, other_meaning, all_regions, shortest, read_twice):
+        yield from some()
+    yield from generated()
 
 
 def model(*words):
@@ -134,6 +219,18 @@ def said_of(journal):
         f.write(journal)
         f.flush()
         return model("replay", f.name)
+
+
+def generated():
+    """Valid journals, cut ones, those with a fault in the header, and those of which a record disagrees."""
+    taken = collections.Counter()
+    for seed in range(1, SEEDS):
+        some = model("generate-journal", str(seed))
+        answer = said_of(some).split()
+        kind = answer[1] if answer[0] == b"refused" else b"0", struct.unpack("<H", some[3:5])[0] if len(some) >= 6 else None
+        taken[kind] += len(some) <= SHORT
+        if len(some) <= SHORT and taken[kind] <= EACH:
+            yield some
 
 
 def main():
