@@ -1,6 +1,6 @@
 -- An index of a region: a number for each type below 44, which says where the one value of that type starts, or that there is none, or
 -- more than one. A value starts at 8 or later, so 0 is left for none and 1 for more than one. h: as in the rules' Region.
-use Prim.Native.Nat.{ℕ, _-_, _<_}
+use Prim.Native.Nat.{ℕ, _-_, _≤_, _<_}
 use mathlib.Core.Path.{_≡_}
 use mathlib.Core.Bool.{Bool, true, false}
 use mathlib.Core.List.{List}
@@ -45,6 +45,7 @@ isEnd (Next x) = false
 isEnd End = true
 isEnd NoTlv = false
 
--- an index tells what its region holds of every type below 44
+-- an index tells what its region holds of every type below 44; the length in front of each value counts the header
 pub record Indexed (h : ℕ) (s : List ℕ) (places : List ℕ) : Type 0 where
   pub tells : (t width : ℕ) → t < 44 → foundAt h s width (getD places t 0) ≡ lookup h s t width
+  pub counts : (t : ℕ) → t < 44 → 8 ≤ getD places t 0 → h ≤ leAt 2 s (getD places t 0 - 4)

@@ -2,17 +2,17 @@
 // walks, so those here are thin: `step` and `after` do the work on a slice and numbers. `header` is how many of its TLV's header bytes a
 // length counts.
 ghost use mathlib.Core.Path.{_≡_};
-ghost use Prim.Native.Nat.{_<_, _^_};
+ghost use Prim.Native.Nat.{_≤_, _<_, _^_};
 ghost use Rattle.rules.specs.Region.{valueSize, filled as Region·filled, stepAt, after as Region·after};
 use rules::Step;
 use rules::Tlv;
 
-// The length of a value, from its TLV's length field; 0 where the field is too small to be one.
+// The length of a value, from its TLV's length field, which counts the header.
 pub fn value_size(header: usize, field: u16) -> usize
+    requires { ⌜ header ≤ field ⌝ }
     ensures { λ r. ⌜ r ≡ valueSize header field ⌝ }
 {
-    let n = field as usize;
-    if n < header { 0 } else { n - header }
+    field as usize - header
 }
 
 fn filled(n: usize) -> usize

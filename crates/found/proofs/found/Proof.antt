@@ -1,3 +1,4 @@
+use native.Mathlib.Omega.{arith}
 use Rattle.rules.specs.Region.{fitsWidth}
 use Rattle.tlv.specs.Index.{sizeAt, foundAt}
 use borrow.Author.Tests.{lt-ltb, le-ltb, eq-eqb, ne-eqb}
@@ -30,7 +31,10 @@ le16-requires : tie.Need-le16-requires
 le16-requires c κs = search needs
 
 value-size-requires : tie.Need-value-size-requires
-value-size-requires c κs = search needs
+value-size-requires c κs =
+    let e = c .before in
+    let i = e .before .before .before .pre in
+    omega (arith, i .0 .counts _ (i .1) (e .if1 .left), c .le16 .ensures)
 
 returns-3 : tie.Need-returns-3
 unfolding foundAt sizeAt fitsWidth
