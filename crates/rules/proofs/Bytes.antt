@@ -6,7 +6,7 @@ use mathlib.Core.List.{List, [], _∷_, _++_, append-assoc}
 use native.Mathlib.Omega.{arith}
 use native.Mathlib.Nat.{pow-suc, add-zero, one-le-pow, mod-eq-of-lt}
 use lib.Arith.{mod-mul}
-use lib.ListN.{length, length-drop, length-append, length-take, getD, take, drop, set, take-append-drop}
+use lib.ListN.{length, length-drop, length-append, length-take, getD, take, drop, set, length-set, take-append-drop}
 use lib.Seq.{take-all, getD-drop, take-suc-set, drop-set-lt, take-append-seam}
 use lib.Dec.{lit<}
 use Rattle.rules.specs.Bytes.{le, leAt, bytesOf, splice}
@@ -71,6 +71,19 @@ splice-cons at b new s h =
 pub splice-nil : (at : ℕ) (s : List ℕ) → splice at [] s ≡ s
 unfolding splice
 splice-nil at s = rw add-zero (take-append-drop at s)
+
+-- in two parts, the second behind the first
+pub splice-append : (at : ℕ) (a b s : List ℕ) → at + length a ≤ length s → splice at (a ++ b) s ≡ splice (at + length a) b (splice at a s)
+splice-append at [] b s h = rw (add-zero, splice-nil at s)
+splice-append at (x ∷ a) b s h =
+    let e : at + suc (length a) ≡ suc at + length a = omega arith in
+    rw (splice-cons at x (a ++ b) s (omega arith), splice-cons at x a s (omega arith), e)
+    (splice-append (suc at) a b (set s at x) (rw length-set (omega arith)))
+
+-- inside, the length stays
+pub length-splice : (at : ℕ) (new s : List ℕ) → at + length new ≤ length s → length (splice at new s) ≡ length s
+unfolding splice
+length-splice at new s h = simp (length-append, length-take, length-drop) (omega arith)
 
 -- what was written at the start
 pub take-splice : (new s : List ℕ) → take (length new) (splice 0 new s) ≡ new

@@ -58,47 +58,63 @@ module _ {A : Type 0} (matches : A → Bool) (beats : A → A → Bool) where
     any-order l l′ to from one =
         one-top l l′ (best matches beats l) (best matches beats l′) to from one (best-is-top l) (best-is-top l′)
 
--- ---- Flows: higher priority, then lower cookie
+-- ---- Flows: longer prefix, then higher priority, then lower cookie. No address is in it, so it is one order for every width
 
 Outranks : FlowEntry → FlowEntry → Type 0
-Outranks a b = (b .priority < a .priority) ⊎ ((a .priority ≡ b .priority) × (a .cookie < b .cookie))
+Outranks a b =
+    (b .prefix < a .prefix)
+    ⊎ (((a .prefix ≡ b .prefix) × (b .priority < a .priority))
+    ⊎ ((a .prefix ≡ b .prefix) × (a .priority ≡ b .priority) × (a .cookie < b .cookie)))
 
 outranks : (a b : FlowEntry) → beats a b ≡ true → Outranks a b
 unfolding Outranks beats
 outranks a b u =
-    by-eq (a .priority) (b .priority)
-    (λ h p. inr (h, ltb-true (a .cookie) (b .cookie) (simp p at u)))
-    (λ h p. inl (ltb-true (b .priority) (a .priority) (simp p at u)))
+    by-eq (a .prefix) (b .prefix)
+    (λ g o. by-eq (a .priority) (b .priority)
+    (λ h p. inr (inr (g, h, ltb-true (a .cookie) (b .cookie) (simp (o, p) at u))))
+    (λ h p. inr (inl (g, ltb-true (b .priority) (a .priority) (simp (o, p) at u)))))
+    (λ g o. inl (ltb-true (b .prefix) (a .prefix) (simp o at u)))
 
 beats-by : (a b : FlowEntry) → Outranks a b → beats a b ≡ true
 unfolding Outranks beats
-beats-by a b (inl h) = simp (gt-eqb (a .priority) (b .priority) h, lt-ltb (b .priority) (a .priority) h)
-beats-by a b (inr h) = simp (eq-eqb (a .priority) (b .priority) (h .0), lt-ltb (a .cookie) (b .cookie) (h .1))
+beats-by a b (inl h) = simp (gt-eqb (a .prefix) (b .prefix) h, lt-ltb (b .prefix) (a .prefix) h)
+beats-by a b (inr (inl h)) =
+    simp (eq-eqb (a .prefix) (b .prefix) (h .0), gt-eqb (a .priority) (b .priority) (h .1), lt-ltb (b .priority) (a .priority) (h .1))
+beats-by a b (inr (inr h)) =
+    simp (eq-eqb (a .prefix) (b .prefix) (h .0), eq-eqb (a .priority) (b .priority) (h .1), lt-ltb (a .cookie) (b .cookie) (h .2))
+
+-- by which of the three it outranks
+by-rank : {G : Type 0} (a b : FlowEntry) → beats a b ≡ true → (b .prefix < a .prefix → G) → (a .prefix ≡ b .prefix → b .priority < a .priority → G)
+    → (a .prefix ≡ b .prefix → a .priority ≡ b .priority → a .cookie < b .cookie → G) → G
+unfolding Outranks
+by-rank a b u x y z = ⊎-elim x (λ r. ⊎-elim (λ h. y (h .0) (h .1)) (λ h. z (h .0) (h .1) (h .2)) r) (outranks a b u)
 
 pub beats-irrefl : (a : FlowEntry) → beats a a ≡ false
-unfolding Outranks
-beats-irrefl a = by-test (beats a a) (λ p. absurd (⊎-elim (λ h. omega arith) (λ h. omega arith) (outranks a a p))) (λ p. p)
+beats-irrefl a = by-test (beats a a) (λ p. absurd (by-rank a a p (λ h. omega arith) (λ g h. omega arith) (λ g h k. omega arith))) (λ p. p)
 
 pub beats-trans : (a b c : FlowEntry) → beats a b ≡ true → beats b c ≡ true → beats a c ≡ true
 unfolding Outranks
 beats-trans a b c u v =
     beats-by a c
-    (⊎-elim
-    (λ h. ⊎-elim (λ k. inl (omega arith)) (λ k. inl (omega arith)) (outranks b c v))
-    (λ h. ⊎-elim (λ k. inl (omega arith)) (λ k. inr (omega arith)) (outranks b c v))
-    (outranks a b u))
+    (by-rank a b u
+    (λ h. by-rank b c v (λ k. inl (omega arith)) (λ j k. inl (omega arith)) (λ j k l. inl (omega arith)))
+    (λ g h. by-rank b c v (λ k. inl (omega arith)) (λ j k. inr (inl (omega arith, omega arith))) (λ j k l. inr (inl (omega arith, omega arith))))
+    (λ g h i. by-rank b c v (λ k. inl (omega arith)) (λ j k. inr (inl (omega arith, omega arith))) (λ j k l. inr (inr (omega arith, omega arith, omega arith)))))
 
 -- two flows of which neither beats the other have one cookie
 pub level : (a b : FlowEntry) → beats a b ≡ false → beats b a ≡ false → a .cookie ≡ b .cookie
 unfolding Outranks
 level a b u v =
-    by-order (a .priority) (b .priority)
-    (λ h p q. not-both (sym (beats-by b a (inl h)) ∙ v))
-    (λ h p q. by-order (a .cookie) (b .cookie)
-    (λ k r s. not-both (sym (beats-by a b (inr (h, k))) ∙ u))
-    (λ k r s. k)
-    (λ k r s. not-both (sym (beats-by b a (inr (sym h, k))) ∙ v)))
-    (λ h p q. not-both (sym (beats-by a b (inl h)) ∙ u))
+    by-order (a .prefix) (b .prefix)
+    (λ f p q. not-both (sym (beats-by b a (inl f)) ∙ v))
+    (λ f p q. by-order (a .priority) (b .priority)
+    (λ h r s. not-both (sym (beats-by b a (inr (inl (sym f, h)))) ∙ v))
+    (λ h r s. by-order (a .cookie) (b .cookie)
+    (λ k m n. not-both (sym (beats-by a b (inr (inr (f, h, k)))) ∙ u))
+    (λ k m n. k)
+    (λ k m n. not-both (sym (beats-by b a (inr (inr (sym f, sym h, k)))) ∙ v)))
+    (λ h r s. not-both (sym (beats-by a b (inr (inl (f, h)))) ∙ u)))
+    (λ f p q. not-both (sym (beats-by a b (inl f)) ∙ u))
 
 -- of rising keys no two are alike
 module _ {A : Type 0} (key : A → ℕ) where

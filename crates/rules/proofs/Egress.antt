@@ -1,8 +1,8 @@
--- Where a frame may go: each output's port is the host or is up, and is not the port that the frame came in on. For any registers,
--- tables, port and frame.
+-- Where a frame may go: each output's port is the host or is up, and is not the port that the frame came in on unless it is routed. For any
+-- registers, tables, port and frame.
 -- Assumes nothing.
 use Prim.Native.Nat.{ℕ}
-use mathlib.Core.Bool.{true, not, _||_}
+use mathlib.Core.Bool.{true, false, not, _||_}
 use mathlib.Core.Logic.{_⊎_, inl, inr}
 use mathlib.Core.List.{List, [], _∷_}
 use mathlib.Core.Path.{_≡_}
@@ -22,16 +22,18 @@ module _ {A : Type 0} (P : A → Type 0) where
 module _ (d : Registers) (ingress : ℕ) where
   -- what is not "left out"
   abbrev pub MayLeave : Output → Type 0
-  MayLeave o = ((o .port ≡ 0) ⊎ (isUp d (o .port) ≡ true)) × (o .port ≡ ingress → ⊥)
+  MayLeave o = ((o .port ≡ 0) ⊎ (isUp d (o .port) ≡ true)) × (o .rewrite .routed ≡ false → o .port ≡ ingress → ⊥)
 
-  kept-is-elsewhere : (o : Output) → isKept d ingress o ≡ true → o .port ≡ ingress → ⊥
+  kept-is-elsewhere : (o : Output) → isKept d ingress o ≡ true → o .rewrite .routed ≡ false → o .port ≡ ingress → ⊥
   unfolding isKept
-  kept-is-elsewhere o e = eqb-false (o .port) ingress (not-true _ (and-left _ _ e))
+  kept-is-elsewhere o e r =
+      let h : o .rewrite .routed || not (eqb (o .port) ingress) ≡ true = and-left _ (eqb (o .port) 0 || isUp d (o .port)) e in
+      eqb-false (o .port) ingress (not-true _ (simp r at h))
 
   kept-is-up : (o : Output) → isKept d ingress o ≡ true → (o .port ≡ 0) ⊎ (isUp d (o .port) ≡ true)
   unfolding isKept
   kept-is-up o e =
-      let h : eqb (o .port) 0 || isUp d (o .port) ≡ true = and-right (not (eqb (o .port) ingress)) _ e in
+      let h : eqb (o .port) 0 || isUp d (o .port) ≡ true = and-right (o .rewrite .routed || not (eqb (o .port) ingress)) _ e in
       by-eq (o .port) 0 (λ z p. inl z) (λ z p. inr (simp p at h))
 
   all-kept : (os : List Output) → All MayLeave (keep d ingress os)

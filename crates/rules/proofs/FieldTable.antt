@@ -76,10 +76,10 @@ module _ (p : ℕ → Bool) where
   unfolding ruleOf
   width-of b t = width-in rows t b
 
--- every width is 8 at most
-pub narrow : (t : ℕ) → ruleOf t .width ≤ 8
+-- every width is 16 at most
+pub narrow : (t : ℕ) → ruleOf t .width ≤ 16
 unfolding rows
-narrow t = leb→le (ruleOf t .width) 8 (width-of (λ w. leb w 8) tt t)
+narrow t = leb→le (ruleOf t .width) 16 (width-of (λ w. leb w 16) tt t)
 
 -- every number below t, from the last one down
 module _ (f : ℕ → Bool) (t : ℕ) where

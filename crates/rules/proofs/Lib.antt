@@ -6,6 +6,7 @@ pub mod Region
 pub mod FieldTable
 pub mod Users
 pub mod GroupId
+pub mod Address
 pub mod Keyed
 pub mod Mapped
 pub mod Rows
@@ -17,4 +18,6 @@ pub mod Journal
 pub mod Charge
 pub mod Agreement
 pub mod Switch
+pub mod PointTable
 mod Points
+mod Routing

@@ -3,7 +3,7 @@
 -- Assumes nothing.
 use Prim.Native.Nat.{ℕ, _+_}
 use mathlib.Core.Path.{_≡_, refl}
-use mathlib.Core.Bool.{Bool, true, false, _&&_}
+use mathlib.Core.Bool.{Bool, true}
 use mathlib.Core.List.{List, [], _∷_, _++_}
 use lib.Dec.{eqb}
 use lib.ListN.{length, take, replicate}
@@ -14,10 +14,10 @@ use Rattle.rules.specs.Writes.{memoryAfter}
 use Rattle.rules.specs.Ring.{zeroRing, distance, outstanding, advance, baseRefusal, baseEffect, powerUpTo, sizeRefusal, sizeEffect, headRefusal, headEffect, creditsRefusal, creditsEffect, creditsRaises, ctrlEffect, ringWide, ringValue, ringStore, ringLatch, baseLatched, ringLatched, nextSlot, completeEffect, completeRaises}
 use Rattle.rules.specs.Registers.{registerAt, isWide, upperOf, narrowAt, coveredBy, wideAt, access, accessRefusal, valueOf, readValue, portBits, commandRing, withCommandRing, withRing, raised, inRing, currentTerms, withLinks, withTest, withTest64, withEnable, freshRegisters, resetRegisters, sets, store, latchOf, latchEffect, taken, joined, writeTo, unlessRefused as unlessWriteRefused, write, readRefusal, read, portCountAllowed, portAllowed}
 use Rattle.rules.specs.Descriptor.{descriptorAt, descriptor, slotRefusal, completionAt, fetch}
-use Rattle.rules.specs.Version.{known, headerCounted, headerBytes}
+use Rattle.rules.specs.Version.{known, headerCounted, headerBytes, routes}
 use Rattle.rules.specs.Region.{valueSize, filled, tlvAt, tlvEnd, isTlv, stepAt, walk, tlvs, endOf, wellFormed, fitsWidth, meet, scan, lookup}
 use Rattle.rules.specs.Fields.{rows, memberWidth, ruleIn, ruleOf, field, isAt, numberIn, nestIn, given, value, right, hasUser, fieldRight, everyBelow, fieldsRight}
-use Rattle.rules.specs.GroupId.{groupType, groupVlan, groupLow, vlanAllowed, hasMembers, groupIdAllowed, memberId}
+use Rattle.rules.specs.GroupId.{groupType, groupVlan, groupLow, vlanAllowed, hasMembers, isRouting, groupIdAllowed, memberId}
 use Rattle.rules.specs.Members.{elem, memberRight, collect, membersIn, membersRight, pad}
 use Rattle.rules.specs.Decode.{refused, carried, need, matchOf, flowOf, groupFits, newVlanFits, matchAllowed, flowUser, isTable, flowIn, flowKeyIn, groupOf, membersOf, groupAllowed, groupUser, groupIn, groupKeyIn, isCommand, commandIn, commandType, commandInfo, decode}
 use Rattle.rules.specs.Keyed.{position, holds, find, insert, replace, remove}
@@ -27,6 +27,7 @@ use Rattle.rules.specs.Switch.{Switch, Borrowed, freshSwitch, unchanged,
 use Rattle.rules.specs.declared.Terms.{Terms}
 use Rattle.rules.specs.declared.Ring.{Ring}
 use Rattle.rules.specs.declared.Request.the-variants.{Read, Write, Process, Header}
+use Rattle.rules.proofs.PointTable.{Point, point, same, all}
 
 -- ---- What the points are computed from
 
@@ -117,7 +118,7 @@ journalOf : ℕ → List ℕ → List ℕ
 journalOf version p = 0x52 ∷ 0x4B ∷ 0x54 ∷ version ∷ 0x00 ∷ 0x04 ∷ 0x00 ∷ 0x80 ∷ 0x48 ∷ 0x00 ∷ 0x00 ∷ 0x00 ∷ p
 
 journal : List ℕ
-journal = journalOf 2 payload
+journal = journalOf 3 payload
 
 -- what a header call and a process call write, each on that device
 written : List ℕ
@@ -145,13 +146,6 @@ again : List ℕ
 again = journal ++ (0x00 ∷ 0x80 ∷ 0x48 ∷ 0x00 ∷ 0x00 ∷ 0x00 ∷ payload)
 
 -- ---- The table
-
-record Point : Type 0 where
-  seen : List ℕ
-  expected : List ℕ
-
-point : List ℕ → List ℕ → Point
-point seen expected = record { seen = seen; expected = expected }
 
 points : List Point
 points =
@@ -181,22 +175,13 @@ points =
     ∷ point (report (replay journal)) five
     ∷ point (report (replay again)) (one 1 4 2)
     ∷ point (report (replay (journalOf 1 oldPayload))) five
+    ∷ point (report (replay (journalOf 2 payload))) five
     ∷ point (report (replay (journalOf 2 oldPayload))) (one 1 4 1)
     ∷ point (report (replay (journalOf 1 payload))) (one 1 4 1)
     ∷ point (report (replay (journalOf 0 payload))) (one 1 2 0)
-    ∷ point (report (replay (journalOf 3 payload))) (one 1 2 0)
+    ∷ point (report (replay (journalOf 4 payload))) (one 1 2 0)
     ∷ []
 
-same : List ℕ → List ℕ → Bool
-same [] [] = true
-same [] (b ∷ ys) = false
-same (a ∷ xs) [] = false
-same (a ∷ xs) (b ∷ ys) = eqb a b && same xs ys
-
-all : List Point → Bool
-all [] = true
-all (p ∷ ps) = same (p .seen) (p .expected) && all ps
-
 points-hold : all points ≡ true
-unfolding points point all same switchWith ring8 unlent bool headWrite sizeWrite testWrite creditsWrite withLengths payload oldPayload old formed run posted memory at-work worked journalOf journal written five one again code le leAt bytesOf swap16 part inside splice bit zeroRing distance outstanding advance baseRefusal baseEffect powerUpTo sizeRefusal sizeEffect headRefusal headEffect creditsRefusal creditsEffect creditsRaises ctrlEffect ringWide ringValue ringStore ringLatch baseLatched ringLatched nextSlot completeEffect completeRaises registerAt isWide upperOf narrowAt coveredBy wideAt access accessRefusal valueOf readValue portBits withRing raised inRing withLinks withTest withTest64 withEnable freshRegisters resetRegisters sets store latchOf latchEffect taken joined writeTo unlessWriteRefused write readRefusal read portCountAllowed portAllowed descriptorAt descriptor slotRefusal completionAt fetch known headerCounted headerBytes valueSize filled tlvAt tlvEnd isTlv stepAt walk tlvs endOf wellFormed fitsWidth meet scan lookup rows memberWidth ruleIn ruleOf field isAt numberIn nestIn given value right hasUser fieldRight everyBelow fieldsRight groupType groupVlan groupLow vlanAllowed hasMembers groupIdAllowed memberId elem memberRight collect membersIn membersRight pad refused carried need matchOf flowOf groupFits newVlanFits matchAllowed flowUser isTable flowIn flowKeyIn groupOf membersOf groupAllowed groupUser groupIn groupKeyIn isCommand commandIn commandType commandInfo decode position holds find insert replace remove storedFlow flowEntry groupEntry emptyTables addStatus heldStatus commandStatus withFlows withGroups commandEffect decodedStatus decodedEffect executed carryOut execute completion header recordOf begin ready stopped headerRefusal termsIn opened headerRead isUnread recordAgrees tablesAfter counted recordRead whole feed feeds endsIn finished finish replay digits decimal item line report freshSwitch unchanged unlessRefused readEffect writeEffect carry carriedSlot slotRecord bufferRefusal processRefusal processWrites memoryAfter processEffect headed refusal effect step
+unfolding points switchWith ring8 unlent bool headWrite sizeWrite testWrite creditsWrite withLengths payload oldPayload old formed run posted memory at-work worked journalOf journal written five one again code le leAt bytesOf swap16 part inside splice bit zeroRing distance outstanding advance baseRefusal baseEffect powerUpTo sizeRefusal sizeEffect headRefusal headEffect creditsRefusal creditsEffect creditsRaises ctrlEffect ringWide ringValue ringStore ringLatch baseLatched ringLatched nextSlot completeEffect completeRaises registerAt isWide upperOf narrowAt coveredBy wideAt access accessRefusal valueOf readValue portBits withRing raised inRing withLinks withTest withTest64 withEnable freshRegisters resetRegisters sets store latchOf latchEffect taken joined writeTo unlessWriteRefused write readRefusal read portCountAllowed portAllowed descriptorAt descriptor slotRefusal completionAt fetch known headerCounted headerBytes routes valueSize filled tlvAt tlvEnd isTlv stepAt walk tlvs endOf wellFormed fitsWidth meet scan lookup rows memberWidth ruleIn ruleOf field isAt numberIn nestIn given value right hasUser fieldRight everyBelow fieldsRight groupType groupVlan groupLow vlanAllowed hasMembers isRouting groupIdAllowed memberId elem memberRight collect membersIn membersRight pad refused carried need matchOf flowOf groupFits newVlanFits matchAllowed flowUser isTable flowIn flowKeyIn groupOf membersOf groupAllowed groupUser groupIn groupKeyIn isCommand commandIn commandType commandInfo decode position holds find insert replace remove storedFlow flowEntry groupEntry emptyTables addStatus heldStatus commandStatus withFlows withGroups commandEffect decodedStatus decodedEffect executed carryOut execute completion header recordOf begin ready stopped headerRefusal termsIn opened headerRead isUnread recordAgrees tablesAfter counted recordRead whole feed feeds endsIn finished finish replay digits decimal item line report freshSwitch unchanged unlessRefused readEffect writeEffect carry carriedSlot slotRecord bufferRefusal processRefusal processWrites memoryAfter processEffect headed refusal effect step
 points-hold = refl

@@ -17,7 +17,7 @@ use Rattle.rules.specs.declared.Terms.{Terms}
 use Rattle.rules.specs.declared.Status.{Status}
 use Rattle.rules.specs.declared.Status.the-variants.{Ok, Enoent, Enxio, Enomem, Eexist, Einval, Emsgsize, Enotsup}
 use Rattle.rules.specs.declared.Match.{Match}
-use Rattle.rules.specs.declared.Match.the-variants.{IngressPort, Vlan, Bridging}
+use Rattle.rules.specs.declared.Match.the-variants.{IngressPort, Vlan, TerminationMac, UnicastRouting, Bridging}
 use Rattle.rules.specs.declared.Flow.{Flow}
 use Rattle.rules.specs.declared.Command.{Command}
 use Rattle.rules.specs.declared.Command.the-variants.{FlowAdd, FlowMod, FlowDel, GroupAdd, GroupMod, GroupDel}
@@ -85,6 +85,8 @@ cookie-stored : (f : Flow) (m : Match) → storedFlow f m .cookie ≡ f .cookie
 unfolding storedFlow
 cookie-stored f (IngressPort p m) = refl
 cookie-stored f (Vlan p v n) = refl
+cookie-stored f (TerminationMac p ethertype mac v) = refl
+cookie-stored f (UnicastRouting ethertype high low prefix hg id) = refl
 cookie-stored f (Bridging v hm m hg id) = refl
 
 -- the key of a stored flow is its cookie

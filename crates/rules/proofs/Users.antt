@@ -8,7 +8,7 @@ use mathlib.Core.Logic.{⊎-elim}
 use mathlib.Core.Path.{_≡_, refl}
 use native.Mathlib.Nat.{not-suc-le-zero}
 use native.Mathlib.Omega.{arith}
-use Rattle.rules.specs.Fields.{rows, memberWidth, ruleIn, ruleOf, hasUser, everyBelow, flow0, flow10, flow50, flowDel, group0, groupMany, groupDel}
+use Rattle.rules.specs.Fields.{rows, memberWidth, ruleIn, ruleOf, hasUser, everyBelow, flow0, flow10, flow20, flow30v4, flow30v6, flow50, flowDel, group0, group2, groupMany, groupDel}
 use Rattle.rules.specs.Members.{elem}
 use Rattle.rules.proofs.Cases.{by-eq, and-left, and-right, not-both}
 
@@ -44,6 +44,9 @@ gotoTbl = 9
 abbrev groupId : ℕ
 groupId = 10
 
+abbrev groupIdLower : ℕ
+groupIdLower = 11
+
 abbrev groupCount : ℕ
 groupCount = 12
 
@@ -56,8 +59,26 @@ vlanId = 14
 abbrev newVlanId : ℕ
 newVlanId = 19
 
+abbrev ethertype : ℕ
+ethertype = 23
+
 abbrev dstMac : ℕ
 dstMac = 24
+
+abbrev srcMac : ℕ
+srcMac = 26
+
+abbrev dstIp : ℕ
+dstIp = 36
+
+abbrev dstIpMask : ℕ
+dstIpMask = 37
+
+abbrev dstIpv6 : ℕ
+dstIpv6 = 38
+
+abbrev dstIpv6Mask : ℕ
+dstIpv6Mask = 39
 
 abbrev popVlan : ℕ
 popVlan = 43
@@ -74,7 +95,8 @@ abbrev user : ℕ → List ℕ → List ℕ → User
 user who uses requires = record { who = who; uses = uses; requires = requires }
 
 -- What a flow add or mod uses and requires is said of all flows and then table by table: the two times may be left out, and so may table
--- 10's NEW_VLAN_ID, whose presence hangs on VLAN_ID and not on the table. A del "reads only its key". Groups go by type.
+-- 10's NEW_VLAN_ID, whose presence hangs on VLAN_ID and not on the table, and the "optional" fields of 30 and 50. A del "reads only its key".
+-- Groups go by type.
 unfoldable pub users : List User
 users =
     user flow0
@@ -83,11 +105,23 @@ users =
     ∷ user flow10
     (tbl ∷ priority ∷ cookie ∷ hardtime ∷ idletime ∷ inPport ∷ vlanId ∷ gotoTbl ∷ newVlanId ∷ [])
     (tbl ∷ priority ∷ cookie ∷ inPport ∷ vlanId ∷ gotoTbl ∷ [])
+    ∷ user flow20
+    (tbl ∷ priority ∷ cookie ∷ hardtime ∷ idletime ∷ inPport ∷ ethertype ∷ dstMac ∷ vlanId ∷ gotoTbl ∷ [])
+    (tbl ∷ priority ∷ cookie ∷ inPport ∷ ethertype ∷ dstMac ∷ vlanId ∷ gotoTbl ∷ [])
+    ∷ user flow30v4
+    (tbl ∷ priority ∷ cookie ∷ hardtime ∷ idletime ∷ ethertype ∷ dstIp ∷ dstIpMask ∷ gotoTbl ∷ groupId ∷ [])
+    (tbl ∷ priority ∷ cookie ∷ ethertype ∷ dstIp ∷ dstIpMask ∷ gotoTbl ∷ [])
+    ∷ user flow30v6
+    (tbl ∷ priority ∷ cookie ∷ hardtime ∷ idletime ∷ ethertype ∷ dstIpv6 ∷ dstIpv6Mask ∷ gotoTbl ∷ groupId ∷ [])
+    (tbl ∷ priority ∷ cookie ∷ ethertype ∷ dstIpv6 ∷ dstIpv6Mask ∷ gotoTbl ∷ [])
     ∷ user flow50
     (tbl ∷ priority ∷ cookie ∷ hardtime ∷ idletime ∷ vlanId ∷ dstMac ∷ gotoTbl ∷ groupId ∷ [])
     (tbl ∷ priority ∷ cookie ∷ vlanId ∷ gotoTbl ∷ [])
     ∷ user flowDel (cookie ∷ []) (cookie ∷ [])
     ∷ user group0 (groupId ∷ outPport ∷ popVlan ∷ []) (groupId ∷ outPport ∷ popVlan ∷ [])
+    ∷ user group2
+    (groupId ∷ groupIdLower ∷ vlanId ∷ srcMac ∷ dstMac ∷ [])
+    (groupId ∷ groupIdLower ∷ vlanId ∷ srcMac ∷ dstMac ∷ [])
     ∷ user groupMany (groupId ∷ groupCount ∷ groupIds ∷ []) (groupId ∷ groupCount ∷ groupIds ∷ [])
     ∷ user groupDel (groupId ∷ []) (groupId ∷ [])
     ∷ []

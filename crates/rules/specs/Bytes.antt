@@ -24,6 +24,11 @@ bytesOf (suc n) v = v % 256 ∷ bytesOf n (v / 256)
 unfoldable pub swap16 : ℕ → ℕ
 swap16 v = v % 256 * 256 + v / 256 % 256
 
+-- the same of n bytes
+unfoldable pub swapped : ℕ → ℕ → ℕ
+swapped zero v = 0
+swapped (suc n) v = v % 256 * 256 ^ n + swapped n (v / 256)
+
 -- the n bytes from a position, or as many as there are
 unfoldable pub part : ℕ → List ℕ → ℕ → List ℕ
 part n s at = take n (drop at s)

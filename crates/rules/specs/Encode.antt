@@ -3,13 +3,14 @@
 use Prim.Native.Nat.{ℕ, zero, suc, _-_}
 use mathlib.Core.Bool.{Bool, true, _&&_}
 use mathlib.Core.List.{List, [], _∷_, _++_}
-use lib.ListN.{length, take, replicate}
+use lib.ListN.{length, take, getD, replicate}
 use lib.Dec.{eqb}
 use Rattle.rules.specs.Choose.{choose, prepend}
 use Rattle.rules.specs.Limits.{fieldTypes}
-use Rattle.rules.specs.Bytes.{bytesOf, swap16}
+use Rattle.rules.specs.Bytes.{bytesOf, swap16, swapped}
 use Rattle.rules.specs.Version.{current, headerBytes}
 use Rattle.rules.specs.Region.{lengthField, filled}
+use Rattle.rules.specs.Address.{prefixMask, addressIn}
 use Rattle.rules.specs.Fields.{ruleOf, hasUser}
 use Rattle.rules.specs.GroupId.{groupVlan, groupLow, memberId}
 use Rattle.rules.specs.declared.FlowEntry.{FlowEntry}
@@ -63,7 +64,14 @@ numberBytes t v = bytesOf (ruleOf t .width) v
 unfoldable pub flowHas : FlowEntry → ℕ → Bool
 flowHas e t = choose (eqb t 10) (e .«has_group») (choose (eqb t 19) (eqb (e .«vlan_id») 0) (choose (eqb t 24) (e .«has_mac») true))
 
--- the number of a field of a flow; VLANs are (N)
+-- an address and its mask, numbers of n bytes and w bits (N), in the words of a flow of table 30
+abbrev pub addressValue : ℕ → ℕ → FlowEntry → ℕ
+addressValue n w e = swapped n (addressIn w (e .«address_high») (e .«address_low»))
+
+abbrev pub maskValue : ℕ → ℕ → FlowEntry → ℕ
+maskValue n w e = swapped n (prefixMask w (e .prefix))
+
+-- the number of a field of a flow; VLANs and ETHERTYPE are (N)
 unfoldable pub flowValue : FlowEntry → ℕ → ℕ
 flowValue e t =
     choose (eqb t 1) (e .table)
@@ -77,7 +85,12 @@ flowValue e t =
     (choose (eqb t 10) (e .«group_id»)
     (choose (eqb t 14) (swap16 (e .«vlan_id»))
     (choose (eqb t 19) (swap16 (e .«new_vlan_id»))
-    (choose (eqb t 24) (e .«dst_mac») 0)))))))))))
+    (choose (eqb t 23) (swap16 (e .ethertype))
+    (choose (eqb t 24) (e .«dst_mac»)
+    (choose (eqb t 36) (addressValue 4 32 e)
+    (choose (eqb t 37) (maskValue 4 32 e)
+    (choose (eqb t 38) (addressValue 16 128 e)
+    (choose (eqb t 39) (maskValue 16 128 e) 0))))))))))))))))
 
 unfoldable pub flowBytes : FlowEntry → ℕ → List ℕ
 flowBytes e t = numberBytes t (flowValue e t)
@@ -93,13 +106,17 @@ unfoldable pub memberFields : ℕ → ℕ → List ℕ → List Field
 memberFields vlan k [] = []
 memberFields vlan k (low ∷ lows) = fieldOf k (bytesOf (ruleOf k .«member_width») (memberId vlan low)) ∷ memberFields vlan (suc k) lows
 
--- the number of a field of a group. OUT_PPORT is not stored: it is the ID's low bits
+-- the number of a field of a group. OUT_PPORT is not stored: it is the ID's low bits. GROUP_ID_LOWER is the one member of type 2, with its VLAN
 unfoldable pub groupValue : GroupEntry → ℕ → ℕ
 groupValue e t =
     choose (eqb t 8) (groupLow (e .id))
     (choose (eqb t 10) (e .id)
+    (choose (eqb t 11) (memberId (e .«vlan_id») (getD (e .members) 0 0))
     (choose (eqb t 12) (e .«member_count»)
-    (choose (eqb t 43) (choose (e .«pop_vlan») 1 0) 0)))
+    (choose (eqb t 14) (swap16 (e .«vlan_id»))
+    (choose (eqb t 24) (e .«dst_mac»)
+    (choose (eqb t 26) (e .«src_mac»)
+    (choose (eqb t 43) (choose (e .«pop_vlan») 1 0) 0)))))))
 
 unfoldable pub groupBytes : GroupEntry → ℕ → List ℕ
 groupBytes e t =

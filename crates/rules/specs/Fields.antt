@@ -12,7 +12,8 @@ use Rattle.rules.specs.declared.FieldRule.{FieldRule}
 use Rattle.rules.specs.declared.Found.{Found}
 use Rattle.rules.specs.declared.Found.the-variants.{Absent, At, Fault}
 
--- Who uses a field, a bit each: flow add and mod by table; flow del; group add and mod of type 0, and of types 3 and 4; group del.
+-- Who uses a field, a bit each: flow add and mod by table, of table 30 by ETHERTYPE too; flow del; group add and mod of type 0, of type 2, and
+-- of types 3 and 4; group del.
 -- A field is listed for a command if it is "used by that command" with its table or group type; a del uses its key alone.
 abbrev pub flow0 : ℕ
 flow0 = 1
@@ -35,11 +36,27 @@ groupMany = 32
 abbrev pub groupDel : ℕ
 groupDel = 64
 
+abbrev pub flow20 : ℕ
+flow20 = 128
+
+-- table 30 "takes exactly the address and mask of its ETHERTYPE"
+abbrev pub flow30v4 : ℕ
+flow30v4 = 256
+
+abbrev pub flow30v6 : ℕ
+flow30v6 = 512
+
+abbrev pub group2 : ℕ
+group2 = 1024
+
+abbrev pub flow30 : ℕ
+flow30 = flow30v4 + flow30v6
+
 abbrev pub flowAny : ℕ
-flowAny = flow0 + flow10 + flow50
+flowAny = flow0 + flow10 + flow20 + flow30 + flow50
 
 abbrev pub groupAny : ℕ
-groupAny = group0 + groupMany + groupDel
+groupAny = group0 + group2 + groupMany + groupDel
 
 pub record Row : Type 0 where
   pub kind : ℕ
@@ -50,7 +67,8 @@ pub record Row : Type 0 where
 abbrev pub row : ℕ → ℕ → ℕ → ℕ → Row
 row t w u n = record { kind = t; width = w; uses = u; needs = n }
 
--- The paper's table: type and width (0: nest); then who uses the field and who requires it, from the paragraphs below the table
+-- The papers' table, with request 2026-03's types: type and width (0: nest); then who uses the field and who requires it, from the
+-- paragraphs below the table and that request's sentences
 unfoldable pub rows : List Row
 rows =
     row 1 2 flowAny flowAny  -- TBL
@@ -58,16 +76,23 @@ rows =
     ∷ row 3 4 flowAny 0  -- HARDTIME
     ∷ row 4 4 flowAny 0  -- IDLETIME
     ∷ row 5 8 (flowAny + flowDel) (flowAny + flowDel)  -- COOKIE
-    ∷ row 6 4 (flow0 + flow10) (flow0 + flow10)  -- IN_PPORT
+    ∷ row 6 4 (flow0 + flow10 + flow20) (flow0 + flow10 + flow20)  -- IN_PPORT
     ∷ row 7 4 flow0 flow0  -- IN_PPORT_MASK
     ∷ row 8 4 group0 group0  -- OUT_PPORT
     ∷ row 9 2 flowAny flowAny  -- GOTO_TBL
-    ∷ row 10 4 (flow50 + groupAny) groupAny  -- GROUP_ID
+    ∷ row 10 4 (flow30 + flow50 + groupAny) groupAny  -- GROUP_ID
+    ∷ row 11 4 group2 group2  -- GROUP_ID_LOWER
     ∷ row 12 2 groupMany groupMany  -- GROUP_COUNT
     ∷ row 13 0 groupMany groupMany  -- GROUP_IDS
-    ∷ row 14 2 (flow10 + flow50) (flow10 + flow50)  -- VLAN_ID
+    ∷ row 14 2 (flow10 + flow20 + flow50 + group2) (flow10 + flow20 + flow50 + group2)  -- VLAN_ID
     ∷ row 19 2 flow10 0  -- NEW_VLAN_ID
-    ∷ row 24 6 flow50 0  -- DST_MAC
+    ∷ row 23 2 (flow20 + flow30) (flow20 + flow30)  -- ETHERTYPE
+    ∷ row 24 6 (flow20 + flow50 + group2) (flow20 + group2)  -- DST_MAC
+    ∷ row 26 6 group2 group2  -- SRC_MAC
+    ∷ row 36 4 flow30v4 flow30v4  -- DST_IP
+    ∷ row 37 4 flow30v4 flow30v4  -- DST_IP_MASK
+    ∷ row 38 16 flow30v6 flow30v6  -- DST_IPV6
+    ∷ row 39 16 flow30v6 flow30v6  -- DST_IPV6_MASK
     ∷ row 43 1 group0 group0  -- POP_VLAN
     ∷ []
 
@@ -92,6 +117,12 @@ unfoldable pub isAt : Found → Bool
 isAt Absent = false
 isAt (At a n) = true
 isAt Fault = false
+
+-- nothing of a field stands there, at any width
+unfoldable pub isAbsent : Found → Bool
+isAbsent Absent = true
+isAbsent (At a n) = false
+isAbsent Fault = false
 
 -- the number of a value of w bytes, 0 where there is none
 unfoldable pub numberIn : List ℕ → ℕ → Found → ℕ

@@ -1,16 +1,17 @@
 -- "A frame's way": from a frame and its ingress port through the tables to the list of outputs (document 01: copies).
-use Prim.Native.Nat.{ℕ, _%_, _^_}
-use mathlib.Core.Bool.{Bool, true, not, _&&_, _||_}
+use Prim.Native.Nat.{ℕ, _+_, _/_, _%_, _^_}
+use mathlib.Core.Bool.{Bool, true, false, not, _&&_, _||_}
 use mathlib.Core.Option.{Option, none, some}
-use mathlib.Core.List.{List, [], _∷_}
+use mathlib.Core.List.{List, [], _∷_, _++_}
 use lib.ListN.{length, take, getD}
 use lib.Dec.{ltb, leb, eqb}
 use lib.Bits.{bitAnd}
 use Rattle.rules.specs.Choose.{choose, refuse}
 use Rattle.rules.specs.Limits.{listNumbers}
-use Rattle.rules.specs.Bytes.{leAt, swap16, splice}
+use Rattle.rules.specs.Bytes.{leAt, swap16, swapped, splice}
+use Rattle.rules.specs.Address.{agree, isIpv6, addressBytes, addressBits, addressIn}
 use Rattle.rules.specs.Keyed.{find}
-use Rattle.rules.specs.GroupId.{groupType, groupVlan, groupLow, hasMembers, memberId}
+use Rattle.rules.specs.GroupId.{groupType, groupVlan, groupLow, hasMembers, isRouting, memberId}
 use Rattle.rules.specs.Registers.{portAllowed, isUp}
 use Rattle.rules.specs.Tables.{Tables, idOf}
 use Rattle.rules.specs.declared.Registers.{Registers}
@@ -35,6 +36,35 @@ frameVlan f = choose (isTagged f) (swap16 (leAt 2 f 14) % 2 ^ 12) 0
 unfoldable pub frameMac : List ℕ → ℕ
 frameMac f = leAt 6 f 0
 
+-- the EtherType, "a tagged frame's" behind the tag, and where what follows it begins
+unfoldable pub frameType : List ℕ → ℕ
+frameType f = swap16 (leAt 2 f (choose (isTagged f) 16 12))
+
+unfoldable pub afterType : List ℕ → ℕ
+afterType f = choose (isTagged f) 18 14
+
+-- "20 (IPv6 40) bytes after the EtherType": a header that has its destination address
+unfoldable pub isRoutable : List ℕ → Bool
+isRoutable f = leb (afterType f + choose (isIpv6 (frameType f)) 40 20) (length f)
+
+-- the destination address of an IPv4 header stands in its bytes 16 to 19, that of an IPv6 header in 24 to 39
+unfoldable pub frameAddress : List ℕ → ℕ
+frameAddress f =
+    let n = addressBytes (frameType f) in
+    swapped n (leAt n f (afterType f + choose (isIpv6 (frameType f)) 24 16))
+
+-- what the tables look at in a frame
+pub record Headers : Type 0 where
+  pub mac : ℕ
+  pub vlan : ℕ
+  pub ethertype : ℕ
+  pub routable : Bool
+  pub address : ℕ
+
+unfoldable pub headersOf : List ℕ → Headers
+headersOf f =
+    record { mac = frameMac f; vlan = frameVlan f; ethertype = frameType f; routable = isRoutable f; address = frameAddress f }
+
 -- ---- The deciding flow
 
 -- the best of the entries that match, in any order of storage
@@ -47,9 +77,13 @@ module _ {A : Type 0} (matches : A → Bool) (beats : A → A → Bool) where
   best [] = none
   best (e ∷ es) = better e (best es)
 
--- a higher PRIORITY decides, and among equal ones "the lower cookie"
+-- Which of two matches decides: "the longest prefix" first, then a higher PRIORITY, and among equal ones "the lower cookie". Only flows of
+-- table 30 have a prefix, of the others it is 0 (Tables: storedFlow), so one order serves every table
 unfoldable pub beats : FlowEntry → FlowEntry → Bool
-beats a b = choose (eqb (a .priority) (b .priority)) (ltb (a .cookie) (b .cookie)) (ltb (b .priority) (a .priority))
+beats a b =
+    choose (eqb (a .prefix) (b .prefix))
+    (choose (eqb (a .priority) (b .priority)) (ltb (a .cookie) (b .cookie)) (ltb (b .priority) (a .priority)))
+    (ltb (b .prefix) (a .prefix))
 
 -- a flow of table 0 matches by the bits of the port that its mask has: "both under the mask"
 unfoldable pub matches0 : ℕ → FlowEntry → Bool
@@ -58,6 +92,17 @@ matches0 port e = eqb (e .table) 0 && eqb (bitAnd port (e .«in_pport_mask»)) (
 -- one of table 10 by "port and VLAN"
 unfoldable pub matches10 : ℕ → ℕ → FlowEntry → Bool
 matches10 port vlan e = eqb (e .table) 10 && eqb (e .«in_pport») port && eqb (e .«vlan_id») vlan
+
+-- one of table 20 by port, EtherType, destination and VLAN, "without masks"
+unfoldable pub matches20 : ℕ → Headers → ℕ → FlowEntry → Bool
+matches20 port h vlan e =
+    eqb (e .table) 20 && eqb (e .«in_pport») port && eqb (e .ethertype) (h .ethertype) && eqb (e .«dst_mac») (h .mac) && eqb (e .«vlan_id») vlan
+
+-- one of table 30 by EtherType and destination address, under its mask
+unfoldable pub matches30 : Headers → FlowEntry → Bool
+matches30 h e =
+    let w = addressBits (h .ethertype) in
+    eqb (e .table) 30 && eqb (e .ethertype) (h .ethertype) && agree w (e .prefix) (addressIn w (e .«address_high») (e .«address_low»)) (h .address)
 
 -- one of table 50 by VLAN and, "where given", by destination
 unfoldable pub matches50 : ℕ → ℕ → FlowEntry → Bool
@@ -70,7 +115,7 @@ pub record Exit : Type 0 where
   pub vlan : ℕ
   pub group : ℕ
 
--- After table 50: a frame that no flow of it matches is dropped, as is one whose flow has GOTO_TBL 0; else table 60 is "passed
+-- After tables 30 and 50: a frame that no flow of it matches is dropped, as is one whose flow has GOTO_TBL 0; else table 60 is "passed
 -- through", and where the flow names no group nothing goes out.
 unfoldable pub exitOf : ℕ → Option FlowEntry → Option Exit
 exitOf vlan none = none
@@ -80,51 +125,83 @@ exitOf vlan (some e) =
 unfoldable pub fromTable50 : List FlowEntry → ℕ → ℕ → Option Exit
 fromTable50 flows mac vlan = exitOf vlan (best (matches50 vlan mac) beats flows)
 
--- After table 10: dropped in the same two cases; else a frame whose VLAN is 0 "takes NEW_VLAN_ID", and table 20 is passed through
-unfoldable pub afterTable10 : List FlowEntry → ℕ → ℕ → Option FlowEntry → Option Exit
-afterTable10 flows mac vlan none = none
-afterTable10 flows mac vlan (some e) =
-    choose (eqb (e .«goto_tbl») 0) none (fromTable50 flows mac (choose (eqb vlan 0) (e .«new_vlan_id») vlan))
+-- a frame in which the address is not whole "drops"
+unfoldable pub fromTable30 : List FlowEntry → Headers → ℕ → Option Exit
+fromTable30 flows h vlan = choose (h .routable) (exitOf vlan (best (matches30 h) beats flows)) none
 
-unfoldable pub fromTable10 : List FlowEntry → ℕ → ℕ → ℕ → Option Exit
-fromTable10 flows mac port vlan = afterTable10 flows mac vlan (best (matches10 port vlan) beats flows)
+-- table 20: "a miss goes to 50"; a flow of it has GOTO_TBL 30
+unfoldable pub afterTable20 : List FlowEntry → Headers → ℕ → Option FlowEntry → Option Exit
+afterTable20 flows h vlan none = fromTable50 flows (h .mac) vlan
+afterTable20 flows h vlan (some e) = fromTable30 flows h vlan
+
+unfoldable pub fromTable20 : List FlowEntry → ℕ → Headers → ℕ → Option Exit
+fromTable20 flows port h vlan = afterTable20 flows h vlan (best (matches20 port h vlan) beats flows)
+
+-- After table 10: dropped in the same two cases as in 50; else a frame whose VLAN is 0 "takes NEW_VLAN_ID", and table 20 is next
+unfoldable pub afterTable10 : List FlowEntry → ℕ → Headers → Option FlowEntry → Option Exit
+afterTable10 flows port h none = none
+afterTable10 flows port h (some e) =
+    choose (eqb (e .«goto_tbl») 0) none (fromTable20 flows port h (choose (eqb (h .vlan) 0) (e .«new_vlan_id») (h .vlan)))
+
+unfoldable pub fromTable10 : List FlowEntry → ℕ → Headers → Option Exit
+fromTable10 flows port h = afterTable10 flows port h (best (matches10 port (h .vlan)) beats flows)
 
 -- table 0 lets a frame on that no flow of it matches: "a miss goes to 10"
 unfoldable pub passesTable0 : Option FlowEntry → Bool
 passesTable0 none = true
 passesTable0 (some e) = not (eqb (e .«goto_tbl») 0)
 
+unfoldable pub wayOf : List FlowEntry → ℕ → Headers → Option Exit
+wayOf flows port h = choose (passesTable0 (best (matches0 port) beats flows)) (fromTable10 flows port h) none
+
 unfoldable pub way : List FlowEntry → ℕ → List ℕ → Option Exit
-way flows port f =
-    choose (passesTable0 (best (matches0 port) beats flows)) (fromTable10 flows (frameMac f) port (frameVlan f)) none
+way flows port f = wayOf flows port (headersOf f)
 
 -- ---- Outputs
 
--- an output ("A copy is"), a number of 16 bits each
+-- how a frame leaves by a group: its VLAN, and where it is routed its new MACs, in wire order
+pub record Rewrite : Type 0 where
+  pub vlan : ℕ
+  pub source : ℕ
+  pub destination : ℕ
+  pub routed : Bool
+
+-- "0 where bridged"
+abbrev pub bridged : ℕ → Rewrite
+bridged vlan = record { vlan = vlan; source = 0; destination = 0; routed = false }
+
+-- type 2 "gives new source and destination MAC, a VLAN"
+abbrev pub routedBy : GroupEntry → Rewrite
+routedBy g = record { vlan = g .«vlan_id»; source = g .«src_mac»; destination = g .«dst_mac»; routed = true }
+
+-- an output ("A copy is")
 pub record Output : Type 0 where
   pub port : ℕ
-  pub vlan : ℕ
   pub pop : ℕ
+  pub rewrite : Rewrite
 
 -- the output of a group of type 0: OUT_PPORT is the low bits of its ID
-unfoldable pub outputOf : ℕ → GroupEntry → Output
-outputOf vlan g = record { port = groupLow (g .id); vlan = vlan; pop = choose (g .«pop_vlan») 1 0 }
+unfoldable pub outputOf : Rewrite → GroupEntry → Output
+outputOf how g = record { port = groupLow (g .id); pop = choose (g .«pop_vlan») 1 0; rewrite = how }
 
-unfoldable pub outputIf : ℕ → Option GroupEntry → List Output → List Output
-outputIf vlan none rest = rest
-outputIf vlan (some g) rest = outputOf vlan g ∷ rest
+unfoldable pub outputIf : Rewrite → Option GroupEntry → List Output → List Output
+outputIf how none rest = rest
+outputIf how (some g) rest = outputOf how g ∷ rest
 
 -- one output for each member that exists ("existing members"), in the order of the list
-unfoldable pub memberOutputs : List GroupEntry → ℕ → ℕ → List ℕ → List Output
-memberOutputs groups groupVlan vlan [] = []
-memberOutputs groups groupVlan vlan (low ∷ lows) =
-    outputIf vlan (find idOf (memberId groupVlan low) groups) (memberOutputs groups groupVlan vlan lows)
+unfoldable pub memberOutputs : List GroupEntry → ℕ → Rewrite → List ℕ → List Output
+memberOutputs groups groupVlan how [] = []
+memberOutputs groups groupVlan how (low ∷ lows) =
+    outputIf how (find idOf (memberId groupVlan low) groups) (memberOutputs groups groupVlan how lows)
 
--- what a group comes to by its type: its own output ("one copy"), or those of its members
+-- what a group comes to by its type: its own output ("one copy"); those of its members; or that of its lower group, a member with the group's
+-- own VLAN, as a routed frame
 unfoldable pub groupOutputs : List GroupEntry → ℕ → GroupEntry → List Output
 groupOutputs groups vlan g =
-    choose (eqb (groupType (g .id)) 0) (outputOf vlan g ∷ [])
-    (choose (hasMembers (groupType (g .id))) (memberOutputs groups (groupVlan (g .id)) vlan (take (g .«member_count») (g .members))) [])
+    let lows = take (g .«member_count») (g .members) in
+    choose (eqb (groupType (g .id)) 0) (outputOf (bridged vlan) g ∷ [])
+    (choose (isRouting (groupType (g .id))) (memberOutputs groups (g .«vlan_id») (routedBy g) lows)
+    (choose (hasMembers (groupType (g .id))) (memberOutputs groups (groupVlan (g .id)) (bridged vlan) lows) []))
 
 -- a group that is named and does not exist ("a missing one") gives none
 unfoldable pub foundOutputs : List GroupEntry → ℕ → Option GroupEntry → List Output
@@ -135,9 +212,10 @@ unfoldable pub exitOutputs : List GroupEntry → Option Exit → List Output
 exitOutputs groups none = []
 exitOutputs groups (some x) = foundOutputs groups (x .vlan) (find idOf (x .group) groups)
 
--- No output goes to the port that the frame came in by. Link and enable are asked of a port "from 1 up": 0 is the host.
+-- No output goes to the port that the frame came in by, but a "routed frame may". Link and enable are asked of a port "from 1 up": 0 is
+-- the host.
 unfoldable pub isKept : Registers → ℕ → Output → Bool
-isKept d ingress o = not (eqb (o .port) ingress) && (eqb (o .port) 0 || isUp d (o .port))
+isKept d ingress o = (o .rewrite .routed || not (eqb (o .port) ingress)) && (eqb (o .port) 0 || isUp d (o .port))
 
 unfoldable pub keep : Registers → ℕ → List Output → List Output
 keep d ingress [] = []
@@ -147,13 +225,21 @@ keep d ingress (o ∷ os) = choose (isKept d ingress o) (o ∷ keep d ingress os
 unfoldable pub outputs : Registers → Tables → ℕ → List ℕ → List Output
 outputs d t port f = choose (isUp d port) (keep d port (exitOutputs (t .groups) (way (t .flows) port f))) []
 
+-- a MAC in three numbers (N), its first two bytes in the first
+unfoldable pub macNumbers : ℕ → List ℕ
+macNumbers mac = swap16 mac ∷ swap16 (mac / 2 ^ 16) ∷ swap16 (mac / 2 ^ 32) ∷ []
+
+-- "nine 16-bit numbers" of an output
+unfoldable pub copyOf : Output → List ℕ
+copyOf o = o .port ∷ o .rewrite .vlan ∷ o .pop ∷ (macNumbers (o .rewrite .source) ++ macNumbers (o .rewrite .destination))
+
 unfoldable pub numbersOf : List Output → List ℕ
 numbersOf [] = []
-numbersOf (o ∷ os) = o .port ∷ o .vlan ∷ o .pop ∷ numbersOf os
+numbersOf (o ∷ os) = copyOf o ++ numbersOf os
 
 -- ---- The call
 
--- 7: a port that the device does not have; 8: "not a frame"; 9: a list without room for 62 outputs ("186 numbers")
+-- 7: a port that the device does not have; 8: "not a frame"; 9: a list without room for 62 outputs ("558")
 unfoldable pub frameRefusal : Registers → ℕ → List ℕ → List ℕ → ℕ
 frameRefusal d port f list =
     refuse (not (portAllowed d port)) 7 (refuse (not (isFrame f)) 8 (refuse (ltb (length list) listNumbers) 9 0))

@@ -1,5 +1,5 @@
--- Document 01 as definitions, in the paper's order, with document 02's request 2026-06 (Encode, Undo) after the trail; a chapter is one
--- file or several (docs/ARCHITECTURE.md).
+-- Document 01 as definitions, in the paper's order, with document 02's requests: 2026-03's addresses (Address) before the fields that hold
+-- them, 2026-06 (Encode, Undo) after the trail; a chapter is one file or several (docs/ARCHITECTURE.md).
 pub mod Choose
 pub mod Answers
 pub mod Limits
@@ -10,6 +10,7 @@ pub mod Ring
 pub mod Registers
 pub mod Descriptor
 pub mod Region
+pub mod Address
 pub mod Fields
 pub mod GroupId
 pub mod Members

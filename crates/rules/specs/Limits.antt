@@ -12,9 +12,12 @@ maxCredits = 65536
 abbrev pub maxPayload : ℕ
 maxPayload = 4096
 
--- a list of outputs has three numbers for each port
+-- an output is "nine 16-bit numbers", and a list has so many for each port (request 2026-03: 558)
+abbrev pub outputNumbers : ℕ
+outputNumbers = 9
+
 abbrev pub listNumbers : ℕ
-listNumbers = 3 * maxPorts
+listNumbers = outputNumbers * maxPorts
 
 -- entries that a table has places for
 abbrev pub maxFlows : ℕ

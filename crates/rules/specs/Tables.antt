@@ -1,6 +1,6 @@
 -- What a payload does to the tables: the statuses after decoding, in their order, and the tables after it.
 use Prim.Native.Nat.{ℕ}
-use mathlib.Core.Bool.{false}
+use mathlib.Core.Bool.{true, false}
 use mathlib.Core.List.{List, []}
 use lib.ListN.{length, replicate}
 use lib.Dec.{leb, eqb}
@@ -13,7 +13,7 @@ use Rattle.rules.specs.declared.Terms.{Terms}
 use Rattle.rules.specs.declared.Status.{Status}
 use Rattle.rules.specs.declared.Status.the-variants.{Ok, Enoent, Enomem, Eexist}
 use Rattle.rules.specs.declared.Match.{Match}
-use Rattle.rules.specs.declared.Match.the-variants.{IngressPort, Vlan, Bridging}
+use Rattle.rules.specs.declared.Match.the-variants.{IngressPort, Vlan, TerminationMac, UnicastRouting, Bridging}
 use Rattle.rules.specs.declared.Flow.{Flow}
 use Rattle.rules.specs.declared.Group.{Group}
 use Rattle.rules.specs.declared.Command.{Command}
@@ -29,14 +29,18 @@ use Rattle.rules.specs.Places.{places, live}
 
 -- ---- Entries
 
--- a stored flow: the table's own fields, the others 0
+-- a stored flow: the table's own fields, the others 0. DST_MAC is always given in table 20
 unfoldable pub storedFlow : Flow → Match → FlowEntry
 storedFlow f (IngressPort p m) =
-    record { cookie = f .cookie; «dst_mac» = 0; priority = f .priority; hardtime = f .hardtime; idletime = f .idletime; «in_pport» = p; «in_pport_mask» = m; «group_id» = 0; table = 0; «goto_tbl» = f .«goto_tbl»; «vlan_id» = 0; «new_vlan_id» = 0; «has_mac» = false; «has_group» = false }
+    record { cookie = f .cookie; «dst_mac» = 0; «address_high» = 0; «address_low» = 0; priority = f .priority; hardtime = f .hardtime; idletime = f .idletime; «in_pport» = p; «in_pport_mask» = m; «group_id» = 0; table = 0; «goto_tbl» = f .«goto_tbl»; «vlan_id» = 0; «new_vlan_id» = 0; ethertype = 0; prefix = 0; «has_mac» = false; «has_group» = false }
 storedFlow f (Vlan p v n) =
-    record { cookie = f .cookie; «dst_mac» = 0; priority = f .priority; hardtime = f .hardtime; idletime = f .idletime; «in_pport» = p; «in_pport_mask» = 0; «group_id» = 0; table = 10; «goto_tbl» = f .«goto_tbl»; «vlan_id» = v; «new_vlan_id» = n; «has_mac» = false; «has_group» = false }
+    record { cookie = f .cookie; «dst_mac» = 0; «address_high» = 0; «address_low» = 0; priority = f .priority; hardtime = f .hardtime; idletime = f .idletime; «in_pport» = p; «in_pport_mask» = 0; «group_id» = 0; table = 10; «goto_tbl» = f .«goto_tbl»; «vlan_id» = v; «new_vlan_id» = n; ethertype = 0; prefix = 0; «has_mac» = false; «has_group» = false }
+storedFlow f (TerminationMac p ethertype mac v) =
+    record { cookie = f .cookie; «dst_mac» = mac; «address_high» = 0; «address_low» = 0; priority = f .priority; hardtime = f .hardtime; idletime = f .idletime; «in_pport» = p; «in_pport_mask» = 0; «group_id» = 0; table = 20; «goto_tbl» = f .«goto_tbl»; «vlan_id» = v; «new_vlan_id» = 0; ethertype = ethertype; prefix = 0; «has_mac» = true; «has_group» = false }
+storedFlow f (UnicastRouting ethertype high low prefix hg id) =
+    record { cookie = f .cookie; «dst_mac» = 0; «address_high» = high; «address_low» = low; priority = f .priority; hardtime = f .hardtime; idletime = f .idletime; «in_pport» = 0; «in_pport_mask» = 0; «group_id» = id; table = 30; «goto_tbl» = f .«goto_tbl»; «vlan_id» = 0; «new_vlan_id» = 0; ethertype = ethertype; prefix = prefix; «has_mac» = false; «has_group» = hg }
 storedFlow f (Bridging v hm m hg id) =
-    record { cookie = f .cookie; «dst_mac» = m; priority = f .priority; hardtime = f .hardtime; idletime = f .idletime; «in_pport» = 0; «in_pport_mask» = 0; «group_id» = id; table = 50; «goto_tbl» = f .«goto_tbl»; «vlan_id» = v; «new_vlan_id» = 0; «has_mac» = hm; «has_group» = hg }
+    record { cookie = f .cookie; «dst_mac» = m; «address_high» = 0; «address_low» = 0; priority = f .priority; hardtime = f .hardtime; idletime = f .idletime; «in_pport» = 0; «in_pport_mask» = 0; «group_id» = id; table = 50; «goto_tbl» = f .«goto_tbl»; «vlan_id» = v; «new_vlan_id» = 0; ethertype = 0; prefix = 0; «has_mac» = hm; «has_group» = hg }
 
 unfoldable pub flowEntry : Flow → FlowEntry
 flowEntry f = storedFlow f (f .matching)
@@ -44,7 +48,7 @@ flowEntry f = storedFlow f (f .matching)
 -- a stored group, from its fields and the 62 numbers that its members stand in
 unfoldable pub groupEntry : Group → List ℕ → GroupEntry
 groupEntry g members =
-    record { id = g .id; «pop_vlan» = g .«pop_vlan»; «member_count» = g .«member_count»; members = members }
+    record { id = g .id; «pop_vlan» = g .«pop_vlan»; «member_count» = g .«member_count»; «vlan_id» = g .«vlan_id»; «src_mac» = g .«src_mac»; «dst_mac» = g .«dst_mac»; members = members }
 
 -- "the key" of each
 abbrev pub cookieOf : FlowEntry → ℕ
@@ -89,7 +93,7 @@ noneLive = record { flows = 0; groups = 0 }
 
 -- a fresh device's arrays: 256 flow places and 128 group places, every word 0
 unfoldable pub freshArrays : Arrays
-freshArrays = arrays (replicate maxFlows (replicate 16 0)) (replicate maxGroups (replicate 3 0)) (replicate maxGroups (replicate maxPorts 0))
+freshArrays = arrays (replicate maxFlows (replicate 22 0)) (replicate maxGroups (replicate 8 0)) (replicate maxGroups (replicate maxPorts 0))
 
 -- ---- Commands
 

@@ -47,8 +47,10 @@ pub const MAX_CREDITS: u32 = 65536;
 // Bytes of a payload.
 pub const MAX_PAYLOAD: usize = 4096;
 
-// Numbers of a list of outputs: three for each port.
-pub const LIST_NUMBERS: usize = 3 * MAX_MEMBERS;
+// Numbers of an output, and of a list of outputs: so many for each port.
+pub const OUTPUT_NUMBERS: usize = 9;
+
+pub const LIST_NUMBERS: usize = OUTPUT_NUMBERS * MAX_MEMBERS;
 
 // Entries that a table has places for.
 pub const MAX_FLOWS: usize = 256;
@@ -62,16 +64,24 @@ pub const FIELD_TYPES: usize = 44;
 pub type Members = [u16; MAX_MEMBERS];
 
 // The arrays that hold the places of the tables (specs/Rows.antt): a flow is a row of the first, a group a row of each of the others.
-pub type FlowRows = [[u32; 16]; MAX_FLOWS];
+pub const FLOW_WORDS: usize = 22;
 
-pub type GroupHeads = [[u32; 3]; MAX_GROUPS];
+pub type FlowRow = [u32; FLOW_WORDS];
+
+pub type FlowRows = [FlowRow; MAX_FLOWS];
+
+pub const HEAD_WORDS: usize = 8;
+
+pub type GroupHead = [u32; HEAD_WORDS];
+
+pub type GroupHeads = [GroupHead; MAX_GROUPS];
 
 pub type GroupMembers = [Members; MAX_GROUPS];
 
 // ---- Terms
 
 // The version that the device obeys and its journals carry (specs/Version.antt).
-pub const CURRENT_VERSION: u16 = 2;
+pub const CURRENT_VERSION: u16 = 3;
 
 // What a journal's header tells, and what its payloads are carried out under: the port count and the version.
 pub struct Terms {
@@ -175,18 +185,20 @@ pub enum Found {
     Fault,
 }
 
-// A row of the field table: the width of the field of this type in CMD_INFO (0: a nest), a bit for each user that reads
-// it and for each that requires it, and the width of the member field of this type in GROUP_IDS (0: none).
+// A row of the field table: a bit for each user that reads the field of this type in CMD_INFO and for each that requires it; its width there
+// (0: a nest), and the width of the member field of this type in GROUP_IDS (0: none). In this order it has no gaps, and a table of such rows
+// is stored many bytes at a time.
 pub struct FieldRule {
+    pub uses: u16,
+    pub needs: u16,
     pub width: u8,
-    pub uses: u8,
-    pub needs: u8,
     pub member_width: u8,
 }
 
 // ---- Commands
 
-// What a flow compares, by its table: 0, 10, 50.
+// What a flow compares, by its table: 0, 10, 20, 30, 50. An address of 32 bits stands in the upper bits of 128, and its mask is the number
+// of ones that it begins with (specs/Address.antt).
 pub enum Match {
     IngressPort {
         in_pport: u32,
@@ -196,6 +208,20 @@ pub enum Match {
         in_pport: u32,
         vlan_id: u16,
         new_vlan_id: u16,
+    },
+    TerminationMac {
+        in_pport: u32,
+        ethertype: u16,
+        dst_mac: u64,
+        vlan_id: u16,
+    },
+    UnicastRouting {
+        ethertype: u16,
+        address_high: u64,
+        address_low: u64,
+        prefix: u8,
+        has_group: bool,
+        group_id: u32,
     },
     Bridging {
         vlan_id: u16,
@@ -215,11 +241,15 @@ pub struct Flow {
     pub matching: Match,
 }
 
-// A group without its members, which stand beside it: POP_VLAN of type 0, GROUP_COUNT of types 3 and 4.
+// A group without its members, which stand beside it: POP_VLAN of type 0; the VLAN and the two MACs of type 2, whose one member is its lower
+// group; GROUP_COUNT of types 3 and 4.
 pub struct Group {
     pub id: u32,
     pub pop_vlan: bool,
     pub member_count: u8,
+    pub vlan_id: u16,
+    pub src_mac: u64,
+    pub dst_mac: u64,
 }
 
 pub enum Command {
@@ -249,6 +279,8 @@ pub struct Decoding {
 pub struct FlowEntry {
     pub cookie: u64,
     pub dst_mac: u64,
+    pub address_high: u64,
+    pub address_low: u64,
     pub priority: u32,
     pub hardtime: u32,
     pub idletime: u32,
@@ -259,16 +291,21 @@ pub struct FlowEntry {
     pub goto_tbl: u16,
     pub vlan_id: u16,
     pub new_vlan_id: u16,
+    pub ethertype: u16,
+    pub prefix: u8,
     pub has_mac: bool,
     pub has_group: bool,
 }
 
 // A stored group. A member has type 0 and the group's VLAN, so its low 16 bits say which it is; those past the count are 0.
-// OUT_PPORT of type 0 is the low 16 bits of the ID.
+// OUT_PPORT of type 0 is the low 16 bits of the ID. A group of type 2 has its lower group as its one member. What a type does not have is 0.
 pub struct GroupEntry {
     pub id: u32,
     pub pop_vlan: bool,
     pub member_count: u8,
+    pub vlan_id: u16,
+    pub src_mac: u64,
+    pub dst_mac: u64,
     pub members: Members,
 }
 
