@@ -10,7 +10,7 @@ use lib.Dec.{leb, eqb}
 use borrow.Author.Tests.{leb-true}
 use Rattle.rules.specs.Limits.{maxPorts}
 use Rattle.rules.specs.Fields.{value}
-use Rattle.rules.specs.GroupId.{groupType, groupIdAllowed}
+use Rattle.rules.specs.GroupId.{groupType, isRouting, groupIdAllowed}
 use Rattle.rules.specs.Members.{Collected, membersRight}
 use Rattle.rules.specs.Decode.{headerOf, groupAllowed}
 use Rattle.rules.specs.declared.Terms.{Terms}
@@ -22,6 +22,6 @@ right-count count c e =
     omega (arith, leb-true count maxPorts (and-right (c .right && leb 1 count) (leb count maxPorts) (and-left _ (eqb (length (c .lows)) count) e)))
 
 pub count-fits : (terms : Terms) (h : ℕ) (s : List ℕ) (id : ℕ) (c : Collected) → h ≡ headerOf terms → groupAllowed terms s id c ≡ true → eqb (groupType id) 0 ≡ false
-    → value h s 12 < 256
+    → isRouting (groupType id) ≡ false → value h s 12 < 256
 unfolding groupAllowed
-count-fits terms h s id c q a e = rw q (right-count (value (headerOf terms) s 12) c (rw e at (and-right (groupIdAllowed id) _ a)))
+count-fits terms h s id c q a e r = rw q (right-count (value (headerOf terms) s 12) c (rw (e, r) at (and-right (groupIdAllowed (terms .version) id) _ a)))

@@ -2,6 +2,7 @@
 ghost use mathlib.Core.Path.{_≡_};
 ghost use mathlib.Core.List.{List};
 ghost use Prim.Native.Nat.{ℕ, _≤_, _<_};
+ghost use Rattle.rules.specs.Bytes.{swap16};
 ghost use Rattle.rules.specs.Fields.{ruleOf, value};
 ghost use Rattle.rules.specs.Members.{pad};
 ghost use Rattle.rules.specs.Decode.{headerOf, refused as Decode·refused, carried as Decode·carried, isCommand, commandIn, decode as Decode·decode};
@@ -17,6 +18,7 @@ use rules::Terms;
 
 mod flow;
 mod group;
+mod route;
 
 // The types of the fields of a payload.
 const CMD_TYPE: u32 = 1;
@@ -61,6 +63,15 @@ fn word(s: &[u8], header: usize, places: &[usize; FIELD_TYPES], t: u32) -> u32
     ensures { λ r. ⌜ r ≡ value header (now (s .entry)) t ⌝ }
 {
     fields::value(s, header, places, t) as u32
+}
+
+// A VLAN or an ETHERTYPE, which is big-endian.
+fn be16(s: &[u8], header: usize, places: &[usize; FIELD_TYPES], t: u32) -> u16
+    requires { ⌜ (Indexed header (now s) (now places)) × (t < fieldTypes) × (ruleOf t .width ≤ 8) ⌝ }
+    ensures { λ r. ⌜ r ≡ swap16 (value header (now (s .entry)) t) ⌝ }
+{
+    let v = fields::value(s, header, places, t);
+    (v % 256 * 256 + v / 256 % 256) as u16
 }
 
 fn is_command(c: u64) -> bool

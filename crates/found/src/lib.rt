@@ -1,14 +1,15 @@
 // What the index of a region says of a type, and what a value holds. Every function is equal to a rule of `rules`.
 ghost use mathlib.Core.Path.{_≡_};
-ghost use Prim.Native.Nat.{min, _<_};
-ghost use Rattle.rules.specs.Bytes.{part};
+ghost use Prim.Native.Nat.{min, _<_, _+_, _*_, _^_};
+ghost use Rattle.rules.specs.Bytes.{swapped, part};
 ghost use Rattle.rules.specs.Region.{lookup};
-ghost use Rattle.rules.specs.Fields.{isAt, numberIn, nestIn};
+ghost use Rattle.rules.specs.Fields.{isAt, isAbsent, numberIn, nestIn};
 ghost use Rattle.tlv.specs.Index.{Indexed};
 ghost use Rattle.rules.specs.Limits.{fieldTypes};
 use rules::FIELD_TYPES;
 use rules::Found;
 use tlv::reader;
+use wire::Halves;
 
 // What the region holds of a type, at a width; width 0 is a nest, of any length. `header` is how many header bytes a length counts.
 pub fn found(s: &[u8], header: usize, places: &[usize; FIELD_TYPES], t: u32, width: u8) -> Found
@@ -40,6 +41,17 @@ pub fn is_at(f: Found) -> bool
     }
 }
 
+// Nothing of the type stands there, at any width.
+pub fn is_absent(f: Found) -> bool
+    ensures { λ r. ⌜ r ≡ isAbsent f ⌝ }
+{
+    match f {
+        Found::Absent => true,
+        Found::At(_, _) => false,
+        Found::Fault => false,
+    }
+}
+
 // The number in a value, 0 where there is none; of eight bytes at most.
 pub fn number_in(s: &[u8], width: u8, f: Found) -> u64
     ensures { λ r. ⌜ r ≡ numberIn (now (s .entry)) (min width 8) f ⌝ }
@@ -48,6 +60,17 @@ pub fn number_in(s: &[u8], width: u8, f: Found) -> u64
         Found::At(a, _) => wire::number_at(s, a, width as usize),
         Found::Absent => 0,
         Found::Fault => 0,
+    }
+}
+
+// The big-endian number in a value of 16 bytes, 0 where there is none.
+pub fn wide_in(s: &[u8], f: Found) -> Halves
+    ensures { λ r. ⌜ r .high * 2 ^ 64 + r .low ≡ swapped 16 (numberIn (now (s .entry)) 16 f) ⌝ }
+{
+    match f {
+        Found::At(a, _) => wire::be128(s, a),
+        Found::Absent => wire::ZERO,
+        Found::Fault => wire::ZERO,
     }
 }
 

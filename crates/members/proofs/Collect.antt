@@ -21,7 +21,7 @@ use Rattle.rules.specs.declared.Tlv.{Tlv}
 use Rattle.rules.specs.declared.Step.{Step}
 use Rattle.rules.specs.declared.Step.the-variants.{Next, End, Fault}
 use Rattle.rules.proofs.Region.{Reached, reached-next, reached-end, reached-fault, tlvs-next, tlvs-end, step-inside, after-next, after-less}
-use Rattle.rules.proofs.Cases.{by-test, by-le, by-lt, and-left, true-or-false}
+use Rattle.rules.proofs.Cases.{by-test, by-le, by-lt, by-eq, and-left, true-or-false}
 use Rattle.tlv.specs.Index.{stops, isEnd}
 use Rattle.tlv.proofs.Indexing.{goes-on}
 use Rattle.members.specs.Listed.{listed}
@@ -85,6 +85,14 @@ none-right count true =
     (λ h p. let z = ne-eqb 0 count (λ e. omega arith) in by-test (leb count 62) (λ q. simp (p, q, z)) (λ q. simp (p, q)))
     (λ h p. simp p)
 none-right count false = refl
+
+-- one member is right for a count of one
+pub one-right : (count low : ℕ) → eqb count 1 ≡ membersRight count (record { right = true; lows = low ∷ [] })
+unfolding membersRight
+one-right count low =
+    by-eq count 1
+    (λ e p. rw e)
+    (λ n p. let z = ne-eqb 1 count (λ e. n (sym e)) in by-test (leb 1 count && leb count 62) (λ q. simp (p, q, z)) (λ q. simp (p, q)))
 
 -- Where the reading of a region stands: n members are at the front of the 62 numbers, and the rest of the region decides
 pub record Reading (h : ℕ) (s : List ℕ) (vlan : ℕ) (lows : List ℕ) (n at : ℕ) : Type 0 where

@@ -1,7 +1,7 @@
 // The members in GROUP_IDS: in order, counted, distinct, of type 0 and of the group's VLAN.
 ghost use mathlib.Core.Path.{_≡_};
-ghost use mathlib.Core.Bool.{Bool, _||_};
-ghost use mathlib.Core.List.{[]};
+ghost use mathlib.Core.Bool.{Bool, true, _||_};
+ghost use mathlib.Core.List.{[], _∷_};
 ghost use Prim.Native.Nat.{ℕ, _≤_};
 ghost use lib.ListN.{take};
 ghost use lib.Dec.{ltb};
@@ -28,6 +28,18 @@ pub fn none() -> Members
     Members {
         right: false,
         lows: [0; MAX_MEMBERS],
+    }
+}
+
+// One member, which is right for a count of one.
+pub fn one(low: u16, count: u64) -> Members
+    ensures { λ r. ⌜ r ≡ listed count (record { right = true; lows = low ∷ [] }) ⌝ }
+{
+    let mut lows = [0; MAX_MEMBERS];
+    lows[0] = low;
+    Members {
+        right: count == 1,
+        lows: lows,
     }
 }
 

@@ -5,14 +5,15 @@ use mathlib.Core.Path.{_≡_, sym, _∙_}
 use mathlib.Core.Bool.{true}
 use mathlib.Core.List.{List}
 use native.Mathlib.Omega.{arith}
-use native.Mathlib.Nat.{pow-le-pow-right, add-zero, sub-zero}
+use native.Mathlib.Nat.{pow-succ', pow-le-pow-right, add-zero, sub-zero}
 use lib.ListN.{length, getD, drop, set, drop-of-length-le}
 use lib.Seq.{drop-cons, getD-drop}
 use lib.Dec.{leb}
 use borrow.Author.Tests.{leb-true, le-leb, lt-leb}
-use Rattle.rules.specs.Bytes.{le, bytesOf, splice, inside}
+use Rattle.rules.specs.Bytes.{le, swapped, bytesOf, splice, inside}
 use Rattle.rules.proofs.Cases.{by-le}
 use Rattle.rules.proofs.Bytes.{le-below, le-nil, splice-cons, splice-nil}
+use Rattle.rules.proofs.Address.{swapped-split, le-split}
 
 -- ---- Reading
 
@@ -48,6 +49,40 @@ reading-ends m k v s ev h =
     let q : m - k ≡ m = omega arith in
     let z : k ≡ 0 = omega arith in
     ev ∙ rw (q, z)
+
+-- ---- The other order
+
+-- a number turned from its lowest byte on, k bytes of it left: a turn, what is turned by then, that there is room for one byte more, and the end
+pub turning-goes-on : (k j r v whole : ℕ) → 0 < k → j ≡ k - 1 → whole ≡ r * 256 ^ k + swapped k v
+    → whole ≡ (r * 256 + v % 256) * 256 ^ j + swapped j (v / 256)
+unfolding swapped
+turning-goes-on k j r v whole h e w =
+    let q : k ≡ suc j = omega arith in
+    let t : whole ≡ r * (256 * 256 ^ j) + (v % 256 * 256 ^ j + swapped j (v / 256)) = rw (q, pow-succ') at w in
+    omega arith
+
+pub turning-grows : (n k j r v : ℕ) → 0 < k → k ≤ n → j ≡ k - 1 → r < 256 ^ (n - k) → r * 256 + v % 256 < 256 ^ (n - j)
+turning-grows n k j r v h l e b =
+    let q : n - j ≡ suc (n - k) = omega arith in
+    rw (q, pow-succ') (omega arith)
+
+pub turning-fits : (n k r : ℕ) → n ≤ 8 → 0 < k → r < 256 ^ (n - k) → r < 2 ^ 56
+turning-fits n k r h l b =
+    let d : n - k ≤ 7 = omega arith in
+    let p : 256 ^ (n - k) ≤ 256 ^ 7 = pow-le-pow-right (omega arith) d in
+    omega arith
+
+pub turning-ends : (k r v whole : ℕ) → k ≤ 0 → whole ≡ r * 256 ^ k + swapped k v → r ≡ whole
+unfolding swapped
+turning-ends k r v whole h w =
+    let q : k ≡ 0 = omega arith in
+    let t : whole ≡ r * 1 + 0 = rw q at w in
+    omega arith
+
+-- two parts, over any widths
+pub halves : (n m : ℕ) (s : List ℕ) → ((j : ℕ) → getD s j 0 < 256)
+    → swapped n (le n s) * 256 ^ m + swapped m (le m (drop n s)) ≡ swapped (n + m) (le (n + m) s)
+halves n m s h = sym (rw (le-split n m s) (swapped-split n m (le n s) (le m (drop n s)) (le-below n s h)))
 
 -- ---- Writing
 

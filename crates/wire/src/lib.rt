@@ -1,8 +1,8 @@
 // Numbers in a slice of bytes, and whether a range is inside one. Nothing here has a `requires`: bytes past the end read as 0,
 // and a number that does not fit inside is not written.
 ghost use mathlib.Core.Path.{_≡_};
-ghost use Prim.Native.Nat.{min};
-ghost use Rattle.rules.specs.Bytes.{le, leAt, swap16, inside as Bytes·inside};
+ghost use Prim.Native.Nat.{min, _+_, _*_, _^_, _≤_};
+ghost use Rattle.rules.specs.Bytes.{le, leAt, swap16, swapped, inside as Bytes·inside};
 ghost use Rattle.wire.specs.Put.{put as Put·put};
 
 fn wide(b: u8) -> u64
@@ -65,6 +65,55 @@ pub fn be16(s: &[u8], at: usize) -> u16
 {
     let v = le16(s, at);
     v % 256 * 256 + v / 256
+}
+
+// The number whose n bytes are those of v the other way round: the lowest of these becomes the highest.
+pub fn turned(v: u64, n: u8) -> u64
+    requires { ⌜ n ≤ 8 ⌝ }
+    ensures { λ r. ⌜ r ≡ swapped n v ⌝ }
+{
+    let mut left = n;
+    let mut rest = v;
+    let mut r = 0;
+    while 0 < left {
+        left -= 1;
+        r = r * 256 + rest % 256;
+        rest = rest / 256;
+    }
+    r
+}
+
+pub fn be32(s: &[u8], at: usize) -> u32
+    ensures { λ r. ⌜ r ≡ swapped 4 (leAt 4 (now (s .entry)) at) ⌝ }
+{
+    turned(number_at(s, at, 4), 4) as u32
+}
+
+pub fn be64(s: &[u8], at: usize) -> u64
+    ensures { λ r. ⌜ r ≡ swapped 8 (leAt 8 (now (s .entry)) at) ⌝ }
+{
+    turned(number_at(s, at, 8), 8)
+}
+
+// A number of 16 bytes by its two halves.
+pub struct Halves {
+    pub high: u64,
+    pub low: u64,
+}
+
+pub const ZERO: Halves = Halves { high: 0, low: 0 };
+
+pub fn be128(s: &[u8], at: usize) -> Halves
+    ensures { λ r. ⌜ r .high * 2 ^ 64 + r .low ≡ swapped 16 (leAt 16 (now (s .entry)) at) ⌝ }
+{
+    if s.len() < at {
+        return ZERO;
+    }
+    let value = &s[at..];
+    Halves {
+        high: be64(value, 0),
+        low: be64(value, 8),
+    }
 }
 
 // Whether n bytes from a position on are inside, by the true end of the range.

@@ -1,4 +1,3 @@
-use Rattle.rules.proofs.FieldTable.{narrow}
 use Rattle.rules.specs.Fields.{field, value, ruleOf}
 use mathlib.Core.Path.{_≡_}
 use Prim.Native.Nat.{min}
@@ -19,8 +18,8 @@ number-in-requires c κs = search needs
 returns : tie.Need-returns
 unfolding value field
 returns c =
-    let t = c .before .before .before .before .args .t in
-    let e : min (ruleOf t .width) 8 ≡ ruleOf t .width = omega (arith, narrow t) in
+    let b = c .before .before .before .before in
+    let e : min (ruleOf (b .args .t) .width) 8 ≡ ruleOf (b .args .t) .width = omega (arith, b .pre .2) in
     cc
 
 pub value-spec : {M : Type 1} → statement M

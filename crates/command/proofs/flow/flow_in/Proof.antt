@@ -2,8 +2,8 @@
 use Rattle.rules.specs.declared.Command.the-variants.{FlowAdd, FlowMod}
 use Rattle.rules.specs.declared.Status.the-variants.{Einval}
 use mathlib.Core.List.{[]}
-use Rattle.rules.specs.Decode.{need, carried, matchOf, flowOf, flowUser, matchAllowed, flowIn}
-use Rattle.rules.specs.Fields.{fieldsRight, value, given}
+use Rattle.rules.specs.Decode.{need, carried, ethertypeIn, matchOf, flowOf, flowUser, pairAlone, matchAllowed, flowIn}
+use Rattle.rules.specs.Fields.{ruleOf, ruleIn, rows, fieldsRight, value, given}
 use Rattle.rules.specs.Choose.{choose}
 use Rattle.rules.specs.declared.Flow.{Flow}
 use Rattle.rules.specs.Members.{pad}
@@ -26,6 +26,7 @@ unfolding flowIn need
 returns c = simp (← c .before .before .before .before .pre .1, ← c .before .before .given .ensures, not-true (c .before .before .given .result) (c .before .if1 .taken)) (c .refused .ensures)
 
 value-requires : tie.Need-value-requires
+unfolding ruleOf ruleIn rows
 value-requires c κs = search needs
 
 is-table-requires : tie.Need-is-table-requires
@@ -49,18 +50,22 @@ returns-2 c =
     )
     (c .refused2 .ensures)
 
+be16-requires : tie.Need-be16-requires
+unfolding ruleOf ruleIn rows
+be16-requires c κs = search needs
+
 -- what decides past the faults of TBL
-past-table : (c : tie.Else2)
-    → let v = c .before .before in
+past-table : (c : tie.After-be16)
+    → let v = c .before .before .before in
     let a = v .before .before .before .before .args in
     let s = now (a .s) in
     let t = v .value .result in
     flowIn (a .terms) s (choose (a .add) FlowAdd FlowMod)
-    ≡ need (fieldsRight (a .header) s (flowUser t) && matchAllowed (a .terms) (value (a .header) s 9) (given (a .header) s 19) (matchOf (a .header) s t)) Einval
+    ≡ need (fieldsRight (a .header) s (flowUser t (c .be16 .result)) && pairAlone (a .header) s t && matchAllowed (a .terms) (value (a .header) s 9) (given (a .header) s 19) (matchOf (a .header) s t)) Einval
     (carried (choose (a .add) FlowAdd FlowMod (flowOf (a .header) s t)) [])
-unfolding flowIn need
+unfolding flowIn need ethertypeIn
 past-table c =
-    let t = c .before in
+    let t = c .before .before in
     let g = t .before .before .before in
     simp (
       ← g .before .before .pre .1,
@@ -68,10 +73,12 @@ past-table c =
       not-false (g .given .result) (t .before .before .if1 .left),
       ← t .before .value .ensures,
       ← t .is-table .ensures,
-      not-false (t .is-table .result) (c .if2 .left),
+      not-false (t .is-table .result) (c .before .if2 .left),
+      ← c .be16 .ensures,
     )
 
 flow-of-requires : tie.Need-flow-of-requires
+unfolding ethertypeIn
 flow-of-requires c κs = search needs
 
 given-requires-2 : tie.Need-given-requires-2
@@ -83,6 +90,10 @@ flow-user-requires c κs = search needs
 fields-right-requires : tie.Need-fields-right-requires
 fields-right-requires c κs = search needs
 
+pair-alone-requires : tie.Need-pair-alone-requires
+unfolding ethertypeIn
+pair-alone-requires c κs = search needs
+
 match-allowed-requires : tie.Need-match-allowed-requires
 match-allowed-requires c κs = search needs
 
@@ -91,27 +102,30 @@ refused-requires-3 c κs = search needs
 
 -- the test of the match is the rule's
 told : (c : tie.After-match-allowed)
-    → let f = c .before .before .before .before in
-    let v = f .before .before .before in
+    → let f = c .before .before .before .before .before in
+    let v = f .before .before .before .before in
     let a = v .before .before .before .before .args in
     c .match-allowed .result ≡ matchAllowed (a .terms) (value (a .header) (now (a .s)) 9) (given (a .header) (now (a .s)) 19) (matchOf (a .header) (now (a .s)) (v .value .result))
 unfolding flowOf
 told c =
-    let f = c .before .before .before .before in
+    let n = c .before .before .before .before in
+    let f = n .before in
     let g = ap (λ (x : Flow). x .«goto_tbl») (f .flow-of .ensures) in
     let m = ap (λ (x : Flow). x .matching) (f .flow-of .ensures) in
-    c .match-allowed .ensures ∙ rw (g, m, c .before .before .before .given2 .ensures)
+    c .match-allowed .ensures ∙ rw (g, m, n .given2 .ensures)
 
 returns-3 : tie.Need-returns-3
 unfolding need
 returns-3 c =
     let m = c .before .before in
-    rw (past-table (m .before .before .before .before .before))
+    let r = m .before .before in
+    rw (past-table (r .before .before .before .before))
     (simp (
-      ← m .before .before .flow-user .ensures,
-      ← m .before .fields-right .ensures,
+      ← r .before .flow-user .ensures,
+      ← r .fields-right .ensures,
+      ← m .before .pair-alone .ensures,
       ← told m,
-      not-true (m .before .fields-right .result && m .match-allowed .result) (c .before .if3 .taken),
+      not-true (r .fields-right .result && m .before .pair-alone .result && m .match-allowed .result) (c .before .if3 .taken),
     )
     (c .refused3 .ensures))
 
@@ -125,13 +139,15 @@ returns-4 : tie.Need-returns-4
 unfolding need pad
 returns-4 c =
     let m = c .before .before .before in
-    let f = m .before .before .before .before in
+    let r = m .before .before in
+    let f = r .before .before .before in
     rw (past-table (f .before))
     (simp (
-      ← m .before .before .flow-user .ensures,
-      ← m .before .fields-right .ensures,
+      ← r .before .flow-user .ensures,
+      ← r .fields-right .ensures,
+      ← m .before .pair-alone .ensures,
       ← told m,
-      not-false (m .before .fields-right .result && m .match-allowed .result) (c .before .before .if3 .left),
+      not-false (r .fields-right .result && m .before .pair-alone .result && m .match-allowed .result) (c .before .before .if3 .left),
       ← f .flow-of .ensures,
       ← c .before .flow-command .ensures,
     )
@@ -148,10 +164,12 @@ flow-in-spec =
     is-table-requires
     refused-requires-2
     returns-2
+    be16-requires
     flow-of-requires
     given-requires-2
     flow-user-requires
     fields-right-requires
+    pair-alone-requires
     match-allowed-requires
     refused-requires-3
     returns-3

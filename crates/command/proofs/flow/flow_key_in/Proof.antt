@@ -1,4 +1,5 @@
 use Rattle.rules.specs.Decode.{need, flowKeyIn}
+use Rattle.rules.specs.Fields.{ruleOf, ruleIn, rows}
 use Rattle.rules.specs.Members.{pad}
 use borrow.Author.Tests.{not-true, not-false}
 use mathlib.Core.Path.{refl}
@@ -17,6 +18,7 @@ unfolding flowKeyIn need
 returns c = simp (← c .before .before .before .before .pre .1, ← c .before .before .fields-right .ensures, not-true (c .before .before .fields-right .result) (c .before .if1 .taken)) (c .refused .ensures)
 
 value-requires : tie.Need-value-requires
+unfolding ruleOf ruleIn rows
 value-requires c κs = search needs
 
 carried-requires : tie.Need-carried-requires

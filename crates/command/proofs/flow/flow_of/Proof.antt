@@ -12,6 +12,7 @@ match-of-requires : tie.Need-match-of-requires
 match-of-requires c κs = search needs
 
 value-requires : tie.Need-value-requires
+unfolding ruleOf ruleIn rows
 value-requires c κs = search needs
 
 word-requires : tie.Need-word-requires
@@ -27,11 +28,12 @@ unfolding ruleOf ruleIn rows
 word-requires-3 c κs = search needs
 
 value-requires-2 : tie.Need-value-requires-2
+unfolding ruleOf ruleIn rows
 value-requires-2 c κs = search needs
 
-cast-t11 : tie.Need-cast-t11
+cast-t12 : tie.Need-cast-t12
 unfolding ruleOf ruleIn rows
-cast-t11 c =
+cast-t12 c =
     let b = c .before .before .before .before .before .before in
     let k = b .shared-slice-known .given in
     omega (arith, value-below (b .before .args .header) (now (b .before .args .s)) 9 2 (λ j. k j .fits) (lit≤ tt), c .value2 .ensures)
@@ -59,5 +61,5 @@ flow-of-spec =
     word-requires-2
     word-requires-3
     value-requires-2
-    cast-t11
+    cast-t12
     returns)

@@ -1,8 +1,8 @@
 use Rattle.rules.specs.Decode.{newVlanFits}
 use borrow.Author.Tests.{eq-eqb, ne-eqb}
 use borrow.Author.Needs.{needs}
-use Rattle.command.proofs.flow.new_vlan_fits.Statement.{statement}
-use Rattle.command.proofs.flow.new_vlan_fits.Tie as tie
+use Rattle.ranges.proofs.new_vlan_fits.Statement.{statement}
+use Rattle.ranges.proofs.new_vlan_fits.Tie as tie
 
 vlan-allowed-requires : tie.Need-vlan-allowed-requires
 vlan-allowed-requires c κs = search needs

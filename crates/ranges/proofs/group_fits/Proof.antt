@@ -1,8 +1,8 @@
 use Rattle.rules.specs.Decode.{groupFits}
 use borrow.Author.Tests.{eq-eqb, ne-eqb, not-true, not-false}
 use borrow.Author.Needs.{needs}
-use Rattle.command.proofs.flow.group_fits.Statement.{statement}
-use Rattle.command.proofs.flow.group_fits.Tie as tie
+use Rattle.ranges.proofs.group_fits.Statement.{statement}
+use Rattle.ranges.proofs.group_fits.Tie as tie
 
 type-of-requires : tie.Need-type-of-requires
 type-of-requires c κs = search needs

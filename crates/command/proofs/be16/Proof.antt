@@ -1,8 +1,8 @@
 use Rattle.rules.specs.Bytes.{swap16}
 use mathlib.Core.Path.{ap}
 use borrow.Author.Needs.{needs}
-use Rattle.command.proofs.flow.vlan.Statement.{statement}
-use Rattle.command.proofs.flow.vlan.Tie as tie
+use Rattle.command.proofs.be16.Statement.{statement}
+use Rattle.command.proofs.be16.Tie as tie
 
 value-requires : tie.Need-value-requires
 value-requires c κs = search needs
@@ -20,5 +20,5 @@ returns : tie.Need-returns
 unfolding swap16
 returns c = ap swap16 (c .value .ensures)
 
-pub vlan-spec : {M : Type 1} → statement M
-vlan-spec = tie.close (tie.spec value-requires mul-result add-result cast-result returns)
+pub be16-spec : {M : Type 1} → statement M
+be16-spec = tie.close (tie.spec value-requires mul-result add-result cast-result returns)
