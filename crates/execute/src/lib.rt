@@ -10,14 +10,14 @@ use rules::Group;
 use rules::GroupEntry;
 use rules::GroupHeads;
 use rules::GroupMembers;
-use rules::MAX_MEMBERS;
 use rules::Match;
+use rules::Members;
 use rules::Status;
 use tables::Counted;
 ghost use mathlib.Core.Path.{_≡_};
 ghost use Rattle.rules.specs.Tables.{arrays, tablesOf, storedFlow, flowEntry, groupEntry, commandStatus, commandEffect, executed, carryOut};
 ghost use Rattle.execute.specs.Outcome.{Executes};
-ghost use Rattle.rules.specs.declared.Match.the-variants.{IngressPort};
+ghost use Rattle.rules.specs.declared.Match.the-variants.{IngressPort, Vlan, TerminationMac, UnicastRouting, Bridging};
 
 // A payload's status, and how many places of each table are live after it.
 pub struct Executed {
@@ -32,6 +32,8 @@ fn common_entry(f: Flow) -> FlowEntry
     FlowEntry {
         cookie: f.cookie,
         dst_mac: 0,
+        address_high: 0,
+        address_low: 0,
         priority: f.priority,
         hardtime: f.hardtime,
         idletime: f.idletime,
@@ -42,62 +44,145 @@ fn common_entry(f: Flow) -> FlowEntry
         goto_tbl: f.goto_tbl,
         vlan_id: 0,
         new_vlan_id: 0,
+        ethertype: 0,
+        prefix: 0,
         has_mac: false,
         has_group: false,
     }
+}
+
+// A stored flow of each table, its own fields over the common ones.
+
+fn ingress_entry(f: Flow, in_pport: u32, in_pport_mask: u32) -> FlowEntry
+    ensures { λ r. ⌜ r ≡ storedFlow f (IngressPort «in_pport» «in_pport_mask») ⌝ }
+{
+    let mut e = common_entry(f);
+    e.in_pport = in_pport;
+    e.in_pport_mask = in_pport_mask;
+    e
+}
+
+fn vlan_entry(f: Flow, in_pport: u32, vlan_id: u16, new_vlan_id: u16) -> FlowEntry
+    ensures { λ r. ⌜ r ≡ storedFlow f (Vlan «in_pport» «vlan_id» «new_vlan_id») ⌝ }
+{
+    let mut e = common_entry(f);
+    e.table = 10;
+    e.in_pport = in_pport;
+    e.vlan_id = vlan_id;
+    e.new_vlan_id = new_vlan_id;
+    e
+}
+
+fn termination_entry(
+    f: Flow,
+    in_pport: u32,
+    ethertype: u16,
+    dst_mac: u64,
+    vlan_id: u16,
+) -> FlowEntry
+    ensures { λ r. ⌜ r ≡ storedFlow f (TerminationMac «in_pport» ethertype «dst_mac» «vlan_id») ⌝ }
+{
+    let mut e = common_entry(f);
+    e.table = 20;
+    e.in_pport = in_pport;
+    e.ethertype = ethertype;
+    e.dst_mac = dst_mac;
+    e.vlan_id = vlan_id;
+    e.has_mac = true;
+    e
+}
+
+fn routing_entry(
+    f: Flow,
+    ethertype: u16,
+    high: u64,
+    low: u64,
+    prefix: u8,
+    has_group: bool,
+    group_id: u32,
+) -> FlowEntry
+    ensures { λ r. ⌜ r ≡ storedFlow f (UnicastRouting ethertype high low prefix «has_group» «group_id») ⌝ }
+{
+    let mut e = common_entry(f);
+    e.table = 30;
+    e.ethertype = ethertype;
+    e.address_high = high;
+    e.address_low = low;
+    e.prefix = prefix;
+    e.has_group = has_group;
+    e.group_id = group_id;
+    e
+}
+
+fn bridging_entry(
+    f: Flow,
+    vlan_id: u16,
+    has_mac: bool,
+    dst_mac: u64,
+    has_group: bool,
+    group_id: u32,
+) -> FlowEntry
+    ensures { λ r. ⌜ r ≡ storedFlow f (Bridging «vlan_id» «has_mac» «dst_mac» «has_group» «group_id») ⌝ }
+{
+    let mut e = common_entry(f);
+    e.table = 50;
+    e.vlan_id = vlan_id;
+    e.has_mac = has_mac;
+    e.dst_mac = dst_mac;
+    e.has_group = has_group;
+    e.group_id = group_id;
+    e
 }
 
 // A flow as it is stored: with the fields of its table.
 fn flow_entry(f: Flow) -> FlowEntry
     ensures { λ r. ⌜ r ≡ flowEntry f ⌝ }
 {
-    let mut e = common_entry(f);
     let m = f.matching;
     match m {
         Match::IngressPort {
             in_pport,
             in_pport_mask,
-        } => {
-            e.in_pport = in_pport;
-            e.in_pport_mask = in_pport_mask;
-            e
-        }
+        } => ingress_entry(f, in_pport, in_pport_mask),
         Match::Vlan {
             in_pport,
             vlan_id,
             new_vlan_id,
-        } => {
-            e.table = 10;
-            e.in_pport = in_pport;
-            e.vlan_id = vlan_id;
-            e.new_vlan_id = new_vlan_id;
-            e
-        }
+        } => vlan_entry(f, in_pport, vlan_id, new_vlan_id),
+        Match::TerminationMac {
+            in_pport,
+            ethertype,
+            dst_mac,
+            vlan_id,
+        } => termination_entry(f, in_pport, ethertype, dst_mac, vlan_id),
+        Match::UnicastRouting {
+            ethertype,
+            address_high: high,
+            address_low: low,
+            prefix,
+            has_group,
+            group_id,
+        } => routing_entry(f, ethertype, high, low, prefix, has_group, group_id),
         Match::Bridging {
             vlan_id,
             has_mac,
             dst_mac,
             has_group,
             group_id,
-        } => {
-            e.table = 50;
-            e.vlan_id = vlan_id;
-            e.has_mac = has_mac;
-            e.dst_mac = dst_mac;
-            e.has_group = has_group;
-            e.group_id = group_id;
-            e
-        }
+        } => bridging_entry(f, vlan_id, has_mac, dst_mac, has_group, group_id),
     }
 }
 
-fn group_entry(g: Group, members: [u16; MAX_MEMBERS]) -> GroupEntry
+fn group_entry(g: Group, members: Members) -> GroupEntry
     ensures { λ r. ⌜ r ≡ groupEntry g members ⌝ }
 {
     GroupEntry {
         id: g.id,
         pop_vlan: g.pop_vlan,
         member_count: g.member_count,
+        vlan_id: g.vlan_id,
+        src_mac: g.src_mac,
+        dst_mac: g.dst_mac,
         members: members,
     }
 }
@@ -133,7 +218,7 @@ fn of_groups(r: Counted, counts: Counts) -> Executed
 // A command, on the one table that it is about.
 fn command(
     c: Command,
-    m: [u16; MAX_MEMBERS],
+    m: Members,
     counts: Counts,
     flows: &mut FlowRows,
     heads: &mut GroupHeads,

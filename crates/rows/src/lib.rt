@@ -1,8 +1,10 @@
 // Rows of words and the entries that they hold (rules, specs/Rows.antt): a row is unpacked by one function and packed by another, and
-// packing is proved to be undone by unpacking. In words of 32 bits nearly every field is one word; cookie and MAC are two, the lower first.
+// packing is proved to be undone by unpacking. In words of 32 bits nearly every field is one word; those of 64 bits and MACs are two, the lower first.
 use rules::FlowEntry;
+use rules::FlowRow;
 use rules::GroupEntry;
-use rules::MAX_MEMBERS;
+use rules::GroupHead;
+use rules::Members;
 ghost use mathlib.Core.Path.{_≡_};
 ghost use mathlib.Core.Bool.{not};
 ghost use Prim.Native.Nat.{_+_, _*_, _%_, _/_};
@@ -75,12 +77,14 @@ fn from_flag(b: bool) -> u32
 // ---- Flows
 
 // The flow that a row holds.
-pub fn entry_of(row: [u32; 16]) -> FlowEntry
+pub fn entry_of(row: FlowRow) -> FlowEntry
     ensures { λ r. ⌜ r ≡ entryIn row ⌝ }
 {
     FlowEntry {
         cookie: join(row[0], row[1]),
         dst_mac: join(row[2], row[3]),
+        address_high: join(row[18], row[19]),
+        address_low: join(row[20], row[21]),
         priority: row[4],
         hardtime: row[5],
         idletime: row[6],
@@ -91,64 +95,72 @@ pub fn entry_of(row: [u32; 16]) -> FlowEntry
         goto_tbl: short(row[11]),
         vlan_id: short(row[12]),
         new_vlan_id: short(row[13]),
+        ethertype: short(row[16]),
+        prefix: byte(row[17]),
         has_mac: flag(row[14]),
         has_group: flag(row[15]),
     }
 }
 
 // A row that holds a flow.
-pub fn row_of(e: FlowEntry) -> [u32; 16]
+pub fn row_of(e: FlowEntry) -> FlowRow
     ensures { λ r. ⌜ entryIn r ≡ e ⌝ }
 {
-    let w0 = low(e.cookie);
-    let w1 = high(e.cookie);
-    let w2 = low(e.dst_mac);
-    let w3 = high(e.dst_mac);
-    let w10 = from_short(e.table);
-    let w11 = from_short(e.goto_tbl);
-    let w12 = from_short(e.vlan_id);
-    let w13 = from_short(e.new_vlan_id);
-    let w14 = from_flag(e.has_mac);
-    let w15 = from_flag(e.has_group);
     [
-        w0,
-        w1,
-        w2,
-        w3,
+        low(e.cookie),
+        high(e.cookie),
+        low(e.dst_mac),
+        high(e.dst_mac),
         e.priority,
         e.hardtime,
         e.idletime,
         e.in_pport,
         e.in_pport_mask,
         e.group_id,
-        w10,
-        w11,
-        w12,
-        w13,
-        w14,
-        w15,
+        from_short(e.table),
+        from_short(e.goto_tbl),
+        from_short(e.vlan_id),
+        from_short(e.new_vlan_id),
+        from_flag(e.has_mac),
+        from_flag(e.has_group),
+        from_short(e.ethertype),
+        from_byte(e.prefix),
+        low(e.address_high),
+        high(e.address_high),
+        low(e.address_low),
+        high(e.address_low),
     ]
 }
 
 // ---- Groups
 
 // The group that a head and its members make.
-pub fn group_of(head: [u32; 3], members: [u16; MAX_MEMBERS]) -> GroupEntry
+pub fn group_of(head: GroupHead, members: Members) -> GroupEntry
     ensures { λ r. ⌜ r ≡ groupIn (head, members) ⌝ }
 {
     GroupEntry {
         id: head[0],
         pop_vlan: flag(head[1]),
         member_count: byte(head[2]),
+        vlan_id: short(head[3]),
+        src_mac: join(head[4], head[5]),
+        dst_mac: join(head[6], head[7]),
         members: members,
     }
 }
 
 // The head of a group; its members stand in their row as they are.
-pub fn head_of(g: GroupEntry) -> [u32; 3]
+pub fn head_of(g: GroupEntry) -> GroupHead
     ensures { λ r. ⌜ groupIn (r, g .members) ≡ g ⌝ }
 {
-    let w1 = from_flag(g.pop_vlan);
-    let w2 = from_byte(g.member_count);
-    [g.id, w1, w2]
+    [
+        g.id,
+        from_flag(g.pop_vlan),
+        from_byte(g.member_count),
+        from_short(g.vlan_id),
+        low(g.src_mac),
+        high(g.src_mac),
+        low(g.dst_mac),
+        high(g.dst_mac),
+    ]
 }

@@ -1,8 +1,10 @@
 // The flow table and the group table, changed where they stand: the caller lends the arrays of their places. A command finds the place of
 // its key and changes that place, and those behind it where an entry is put in or taken out.
+use rules::FLOW_WORDS;
 use rules::FlowRows;
 use rules::GroupHeads;
 use rules::GroupMembers;
+use rules::HEAD_WORDS;
 use rules::MAX_FLOWS;
 use rules::MAX_GROUPS;
 use rules::MAX_MEMBERS;
@@ -39,7 +41,7 @@ pub struct Counted {
 pub fn clear(flows: &mut FlowRows, heads: &mut GroupHeads, members: &mut GroupMembers)
     ensures { λ _. ⌜ arrays (now (flows .exit)) (now (heads .exit)) (now (members .exit)) ≡ freshArrays ⌝ }
 {
-    *flows = [[0; 16]; MAX_FLOWS];
-    *heads = [[0; 3]; MAX_GROUPS];
+    *flows = [[0; FLOW_WORDS]; MAX_FLOWS];
+    *heads = [[0; HEAD_WORDS]; MAX_GROUPS];
     *members = [[0; MAX_MEMBERS]; MAX_GROUPS];
 }

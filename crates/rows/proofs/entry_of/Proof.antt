@@ -4,11 +4,6 @@ use Rattle.rules.specs.Rows.{entryIn}
 use borrow.Author.Needs.{needs}
 use Rattle.rows.proofs.entry_of.Statement.{statement}
 use Rattle.rows.proofs.entry_of.Tie as tie
-use Rattle.rows.proofs.entry_of.Reads as reads
-use Rattle.rows.proofs.entry_of.Lts as lts
-use Rattle.rows.proofs.flag.Reads as flag-reads
-use Rattle.rows.proofs.join.Reads as join-reads
-use Rattle.rows.proofs.short.Reads as short-reads
 
 array-read-join : tie.Need-array-read-join
 array-read-join c = search needs
@@ -28,23 +23,41 @@ array-read-join-4 c = search needs
 join-requires-2 : tie.Need-join-requires-2
 join-requires-2 c κs = search needs
 
-array-read-t19 : tie.Need-array-read-t19
-array-read-t19 c = search needs
+array-read-join-5 : tie.Need-array-read-join-5
+array-read-join-5 c = search needs
 
-array-read-t22 : tie.Need-array-read-t22
-array-read-t22 c = search needs
+array-read-join-6 : tie.Need-array-read-join-6
+array-read-join-6 c = search needs
 
-array-read-t25 : tie.Need-array-read-t25
-array-read-t25 c = search needs
+join-requires-3 : tie.Need-join-requires-3
+join-requires-3 c κs = search needs
 
-array-read-t28 : tie.Need-array-read-t28
-array-read-t28 c = search needs
+array-read-join-7 : tie.Need-array-read-join-7
+array-read-join-7 c = search needs
 
-array-read-t31 : tie.Need-array-read-t31
-array-read-t31 c = search needs
+array-read-join-8 : tie.Need-array-read-join-8
+array-read-join-8 c = search needs
 
-array-read-t34 : tie.Need-array-read-t34
-array-read-t34 c = search needs
+join-requires-4 : tie.Need-join-requires-4
+join-requires-4 c κs = search needs
+
+array-read-t33 : tie.Need-array-read-t33
+array-read-t33 c = search needs
+
+array-read-t36 : tie.Need-array-read-t36
+array-read-t36 c = search needs
+
+array-read-t39 : tie.Need-array-read-t39
+array-read-t39 c = search needs
+
+array-read-t42 : tie.Need-array-read-t42
+array-read-t42 c = search needs
+
+array-read-t45 : tie.Need-array-read-t45
+array-read-t45 c = search needs
+
+array-read-t48 : tie.Need-array-read-t48
+array-read-t48 c = search needs
 
 array-read-short : tie.Need-array-read-short
 array-read-short c = search needs
@@ -70,6 +83,18 @@ array-read-short-4 c = search needs
 short-requires-4 : tie.Need-short-requires-4
 short-requires-4 c κs = search needs
 
+array-read-short-5 : tie.Need-array-read-short-5
+array-read-short-5 c = search needs
+
+short-requires-5 : tie.Need-short-requires-5
+short-requires-5 c κs = search needs
+
+array-read-byte : tie.Need-array-read-byte
+array-read-byte c = search needs
+
+byte-requires : tie.Need-byte-requires
+byte-requires c κs = search needs
+
 array-read-flag : tie.Need-array-read-flag
 array-read-flag c = search needs
 
@@ -85,10 +110,10 @@ flag-requires-2 c κs = search needs
 returns : tie.Need-returns
 unfolding entryIn
 returns c =
-    let f = c .before in
-    let s = f .before in
-    let j = s .before .before .before .before in
-    simp (c .flag2 .ensures, f .flag .ensures, s .short4 .ensures, s .before .short3 .ensures, s .before .before .short2 .ensures, s .before .before .before .short .ensures, j .join2 .ensures, j .before .join .ensures)
+    let b = c .before .before in
+    let s = b .before in
+    let j = s .before .before .before .before .before in
+    simp (c .flag2 .ensures, c .before .flag .ensures, b .byte .ensures, s .short5 .ensures, s .before .short4 .ensures, s .before .before .short3 .ensures, s .before .before .before .short2 .ensures, s .before .before .before .before .short .ensures, j .join4 .ensures, j .before .join3 .ensures, j .before .before .join2 .ensures, j .before .before .before .join .ensures)
 
 pub entry-of-spec : {M : Type 1} → statement M
 entry-of-spec =
@@ -100,12 +125,18 @@ entry-of-spec =
     array-read-join-3
     array-read-join-4
     join-requires-2
-    array-read-t19
-    array-read-t22
-    array-read-t25
-    array-read-t28
-    array-read-t31
-    array-read-t34
+    array-read-join-5
+    array-read-join-6
+    join-requires-3
+    array-read-join-7
+    array-read-join-8
+    join-requires-4
+    array-read-t33
+    array-read-t36
+    array-read-t39
+    array-read-t42
+    array-read-t45
+    array-read-t48
     array-read-short
     short-requires
     array-read-short-2
@@ -114,6 +145,10 @@ entry-of-spec =
     short-requires-3
     array-read-short-4
     short-requires-4
+    array-read-short-5
+    short-requires-5
+    array-read-byte
+    byte-requires
     array-read-flag
     flag-requires
     array-read-flag-2

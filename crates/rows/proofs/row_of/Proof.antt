@@ -5,12 +5,6 @@ use Rattle.rows.proofs.Halves.{halves}
 use borrow.Author.Needs.{needs}
 use Rattle.rows.proofs.row_of.Statement.{statement}
 use Rattle.rows.proofs.row_of.Tie as tie
-use Rattle.rows.proofs.row_of.Reads as reads
-use Rattle.rows.proofs.row_of.Lts as lts
-use Rattle.rows.proofs.high.Reads as high-reads
-use Rattle.rows.proofs.from_short.Reads as from-short-reads
-use Rattle.rows.proofs.low.Reads as low-reads
-use Rattle.rows.proofs.from_flag.Reads as from-flag-reads
 
 low-requires : tie.Need-low-requires
 low-requires c κs = search needs
@@ -42,13 +36,32 @@ from-flag-requires c κs = search needs
 from-flag-requires-2 : tie.Need-from-flag-requires-2
 from-flag-requires-2 c κs = search needs
 
+from-short-requires-5 : tie.Need-from-short-requires-5
+from-short-requires-5 c κs = search needs
+
+from-byte-requires : tie.Need-from-byte-requires
+from-byte-requires c κs = search needs
+
+low-requires-3 : tie.Need-low-requires-3
+low-requires-3 c κs = search needs
+
+high-requires-3 : tie.Need-high-requires-3
+high-requires-3 c κs = search needs
+
+low-requires-4 : tie.Need-low-requires-4
+low-requires-4 c κs = search needs
+
+high-requires-4 : tie.Need-high-requires-4
+high-requires-4 c κs = search needs
+
 returns : tie.Need-returns
 unfolding entryIn
 returns c =
-    let w = c .before in
-    let l = w .before in
-    let h = l .before .before .before .before in
-    simp (c .from-flag2 .ensures, w .from-flag .ensures, l .from-short4 .ensures, l .before .from-short3 .ensures, l .before .before .from-short2 .ensures, l .before .before .before .from-short .ensures, h .high2 .ensures, h .before .low2 .ensures, h .before .before .high .ensures, h .before .before .before .low .ensures, halves)
+    let s = c .before .before .before .before in
+    let f = s .before .before in
+    let t = f .before .before in
+    let h = t .before .before .before .before in
+    simp (c .high4 .ensures, c .before .low4 .ensures, c .before .before .high3 .ensures, c .before .before .before .low3 .ensures, s .from-byte .ensures, s .before .from-short5 .ensures, f .from-flag2 .ensures, f .before .from-flag .ensures, t .from-short4 .ensures, t .before .from-short3 .ensures, t .before .before .from-short2 .ensures, t .before .before .before .from-short .ensures, h .high2 .ensures, h .before .low2 .ensures, h .before .before .high .ensures, h .before .before .before .low .ensures, halves)
 
 pub row-of-spec : {M : Type 1} → statement M
 row-of-spec =
@@ -64,4 +77,10 @@ row-of-spec =
     from-short-requires-4
     from-flag-requires
     from-flag-requires-2
+    from-short-requires-5
+    from-byte-requires
+    low-requires-3
+    high-requires-3
+    low-requires-4
+    high-requires-4
     returns)
