@@ -7,6 +7,7 @@ use mathlib.Core.Path.{_≡_, sym}
 use mathlib.Core.List.{List, []}
 use lib.ListN.{length}
 use borrow.Author.Tests.{lt-ltb, le-ltb}
+use Rattle.rules.specs.Limits.{listNumbers}
 use Rattle.rules.specs.Answers.{number}
 use Rattle.rules.specs.Registers.{portAllowed, isUp}
 use Rattle.rules.specs.Keyed.{find}
@@ -32,16 +33,16 @@ module _ (d : Registers) (t : Tables) (port : ℕ) (f before : List ℕ) where
     frame-refused q = record { answer = simp (p, q); count = simp (p, q); list = simp (p, q) }
 
     module _ (q : isFrame f ≡ true) where
-      pub list-refused : length before < 186 → Outcome d t port f before (record { answer = ListShort; outputs = 0 }) before
+      pub list-refused : length before < listNumbers → Outcome d t port f before (record { answer = ListShort; outputs = 0 }) before
       unfolding frameRefusal number
       list-refused h =
-          let s = lt-ltb (length before) 186 h in
+          let s = lt-ltb (length before) listNumbers h in
           record { answer = simp (p, q, s); count = simp (p, q, s); list = simp (p, q, s) }
 
-      module _ (h : 186 ≤ length before) where
+      module _ (h : listNumbers ≤ length before) where
         accepted : frameRefusal d port f before ≡ 0
         unfolding frameRefusal
-        accepted = simp (p, q, le-ltb (length before) 186 h)
+        accepted = simp (p, q, le-ltb (length before) listNumbers h)
 
         done : {n : ℕ} {after : List ℕ} → Lists (outputs d t port f) n before after → Outcome d t port f before (record { answer = Done; outputs = n }) after
         unfolding number

@@ -8,10 +8,9 @@ use rules::LIST_NUMBERS;
 use rules::Registers;
 ghost use Prim.Native.Nat.{_≤_};
 ghost use mathlib.Core.Path.{_≡_};
-ghost use lib.ListN.{length, getD};
-ghost use Rattle.rules.specs.Bytes.{leAt, swap16};
+ghost use lib.ListN.{length};
 ghost use Rattle.rules.specs.Tables.{liveFlows, liveGroups, arrays, tablesOf};
-ghost use Rattle.rules.specs.Frame.{isTagged, isFrame, frameVlan, way, keep, exitOutputs};
+ghost use Rattle.rules.specs.Frame.{way, keep, exitOutputs};
 ghost use Rattle.outputs.specs.Outputs.{Lists};
 ghost use Rattle.egress.specs.Outcome.{Outcome};
 ghost use Rattle.rules.specs.Limits.{listNumbers};
@@ -20,41 +19,6 @@ ghost use Rattle.rules.specs.Limits.{listNumbers};
 pub struct Framed {
     pub answer: Answer,
     pub outputs: usize,
-}
-
-fn byte(f: &[u8], i: usize) -> u8
-    ensures { λ r. ⌜ r ≡ getD (now (f .entry)) i 0 ⌝ }
-{
-    if i < f.len() { f[i] } else { 0 }
-}
-
-fn is_tagged(f: &[u8]) -> bool
-    ensures { λ r. ⌜ r ≡ isTagged (now (f .entry)) ⌝ }
-{
-    (byte(f, 12) == 0x81) & (byte(f, 13) == 0x00)
-}
-
-fn is_frame(f: &[u8]) -> bool
-    ensures { λ r. ⌜ r ≡ isFrame (now (f .entry)) ⌝ }
-{
-    (14 <= f.len()) & (f.len() <= 9216) & (!is_tagged(f) | (18 <= f.len()))
-}
-
-// Bytes 14 and 15, which stand big-endian.
-fn tag(f: &[u8]) -> u16
-    ensures { λ r. ⌜ r ≡ swap16 (leAt 2 (now (f .entry)) 14) ⌝ }
-{
-    wire::be16(f, 14)
-}
-
-// The low 12 bits of a tagged frame's tag.
-fn frame_vlan(f: &[u8]) -> u16
-    ensures { λ r. ⌜ r ≡ frameVlan (now (f .entry)) ⌝ }
-{
-    if is_tagged(f) {
-        return tag(f) & 0xfff;
-    }
-    0
 }
 
 // The outputs of a frame on a port that is up and enabled.
@@ -71,7 +35,7 @@ fn outputs_from(
     requires { ⌜ listNumbers ≤ length (now list) ⌝ }
     ensures { λ r. ⌜ Lists (keep d port (exitOutputs (liveGroups (counts .groups) (now (heads .entry)) (now (members .entry))) (way (liveFlows (counts .flows) (now (flows .entry))) port (now (f .entry))))) r (now (list .entry)) (now (list .exit)) ⌝ }
 {
-    let w = deciding::way(flows, counts.flows, port, frame_vlan(f), wire::le48(f, 0));
+    let w = deciding::way(flows, counts.flows, port, headers::headers_of(f));
     if w.found {
         return outputs::group_outputs(
             d,
@@ -109,7 +73,7 @@ pub fn frame(
     if !ports::port_allowed(d, port) {
         return answered(Answer::PortNotAllowed, 0);
     }
-    if !is_frame(f) {
+    if !headers::is_frame(f) {
         return answered(Answer::NotAFrame, 0);
     }
     if list.len() < LIST_NUMBERS {

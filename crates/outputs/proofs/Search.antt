@@ -17,7 +17,7 @@ use Rattle.rules.specs.Tables.{idOf, liveGroups}
 use Rattle.rules.specs.declared.GroupEntry.{GroupEntry}
 use Rattle.rules.proofs.Cases.{by-test, by-lt, gt-eqb, not-both}
 use Rattle.rules.proofs.Rows.{getD-beside, length-beside}
-use Rattle.outputs.specs.Outputs.{Passed, Sought, membersFound}
+use Rattle.outputs.specs.Outputs.{Passed, Sought}
 
 pub passed-none : (heads : List (List ℕ)) (id : ℕ) → Passed heads id 0
 passed-none heads id = record { is = λ i h. absurd (omega arith) }
@@ -78,14 +78,3 @@ found {count} {id} {at} {heads} {held} s ms e =
     (λ p. let h = s .here p in
     simp p (find-here groupIn idOf ([], []) id count (beside heads ms) at b (omega arith) (rw (getD-beside heads ms at e) (h .2)) ∙ ap {B = Option GroupEntry} (λ r. some (groupIn r)) (getD-beside heads ms at e)))
     (λ p. simp p (find-gone groupIn idOf ([], []) id count (beside heads ms) at b (λ g. rw (getD-beside heads ms at e) (s .gone p (omega arith)))))
-
--- the members of the group that was found
-module _ {count id at : ℕ} {heads : List (List ℕ)} {held : Bool} (s : Sought count heads id at held) (members : List (List ℕ)) (e : length heads ≡ length members) where
-  pub found-members : held ≡ true → {g : GroupEntry} → g ≡ groupIn (getD heads at [], getD members at [])
-      → take (g .«member_count») (g .members) ≡ membersFound (find idOf id (liveGroups count heads members))
-  unfolding membersFound
-  found-members q u = rw (found s members e, q, ← u) refl
-
-  pub found-none : held ≡ false → membersFound (find idOf id (liveGroups count heads members)) ≡ []
-  unfolding membersFound
-  found-none q = rw (found s members e, q) refl

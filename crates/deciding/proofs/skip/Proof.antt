@@ -1,6 +1,6 @@
 use Prim.Native.Nat.{_≤_}
 use mathlib.Core.Path.{sym, _∙_}
-use Rattle.deciding.specs.Way.{Skips}
+use Rattle.deciding.specs.Way.{headersIn, matchesIn, Skips}
 use Rattle.deciding.proofs.Scan.{skips-none, skips-more}
 use borrow.Author.Needs.{needs}
 use native.Mathlib.Omega.{arith}
@@ -8,11 +8,11 @@ use Rattle.deciding.proofs.skip.Statement.{statement}
 use Rattle.deciding.proofs.skip.Tie as tie
 
 abbrev Inv-loop : tie.InvT-loop
-Inv-loop rows from vlan mac i₀ i =
-    (i ≤ 256) × Skips rows 50 0 vlan mac from i
+Inv-loop rows from table port h i₀ i =
+    (i ≤ 256) × Skips rows (matchesIn table port (headersIn h)) from i
 
 abbrev μ-loop : tie.MeasureT-loop
-μ-loop rows from vlan mac i₀ i = i
+μ-loop rows from table port h i₀ i = i
 
 loop-holds : tie.Need-loop-holds Inv-loop μ-loop
 loop-holds c = (search needs, skips-none)

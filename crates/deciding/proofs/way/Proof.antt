@@ -1,8 +1,9 @@
 -- Table by table: each hit either ends the way, and then so does the rules' way, or hands it on to the next table.
 -- Assumes nothing.
 use mathlib.Core.Path.{sym, _∙_}
-use Rattle.deciding.specs.Way.{exitIn}
-use Rattle.deciding.proofs.Tables.{after-0, after-10, after-50, nowhere}
+use Rattle.rules.specs.Tables.{liveFlows}
+use Rattle.deciding.specs.Way.{headersIn}
+use Rattle.deciding.proofs.Tables.{after-0, after-10, with-vlan, nowhere}
 use borrow.Author.Needs.{needs}
 use Rattle.deciding.proofs.way.Statement.{statement}
 use Rattle.deciding.proofs.way.Tie as tie
@@ -21,7 +22,8 @@ returns c =
     let t = c .before in
     let f = t .before .before .before in
     let h = f .before .before .before in
-    nowhere _ (c .dropped .ensures) ∙ sym (after-0 (h .before .args .mac) (f .flow .ensures) (h .first-hits .ensures .0) .ends (t .if1 .taken))
+    let a = h .before .args in
+    nowhere _ (c .dropped .ensures) ∙ sym (after-0 (a .port) (headersIn (a .h)) (f .flow .ensures) (h .first-hits .ensures .0) .ends (t .if1 .taken))
 
 flow-requires-2 : tie.Need-flow-requires-2
 flow-requires-2 c κs = search needs
@@ -34,46 +36,32 @@ returns-2 c =
     let g = c .before .before .before .before in
     let f = g .before .before .before .before in
     let h = f .before .before .before in
-    let m = h .before .args .mac in
-    let on = after-0 m (f .flow .ensures) (h .first-hits .ensures .0) .goes (g .before .if1 .left) in
-    nowhere _ (c .dropped2 .ensures) ∙ sym (on ∙ after-10 m (g .flow2 .ensures) (h .first-hits .ensures .1) .ends (c .before .if2 .taken))
+    let a = h .before .args in
+    let on = after-0 (a .port) (headersIn (a .h)) (f .flow .ensures) (h .first-hits .ensures .0) .goes (g .before .if1 .left) in
+    nowhere _ (c .dropped2 .ensures) ∙ sym (on ∙ after-10 (a .port) (headersIn (a .h)) (g .flow2 .ensures) (h .first-hits .ensures .1) .ends (c .before .if2 .taken))
 
 vlan-after-requires : tie.Need-vlan-after-requires
 vlan-after-requires c κs = search needs
 
-last-hit-requires : tie.Need-last-hit-requires
-last-hit-requires c κs = search needs
+with-vlan-requires : tie.Need-with-vlan-requires
+with-vlan-requires c κs = search needs
 
-flow-requires-3 : tie.Need-flow-requires-3
-flow-requires-3 c κs = search needs
-
-dropped-requires-3 : tie.Need-dropped-requires-3
-dropped-requires-3 c κs = search needs
+from-20-requires : tie.Need-from-20-requires
+from-20-requires c κs = c .before .before .before .before .before .before .before .before .before .before .before .before .first-hits .ensures .2
 
 returns-3 : tie.Need-returns-3
+unfolding headersIn
 returns-3 c =
-    let k = c .before .before .before .before in
-    let v = k .before .before in
+    let w = c .before in
+    let v = w .before in
     let g = v .before .before .before .before in
     let f = g .before .before .before .before in
     let h = f .before .before .before in
-    let m = h .before .args .mac in
-    let on = after-0 m (f .flow .ensures) (h .first-hits .ensures .0) .goes (g .before .if1 .left) in
-    let far = rw (← v .vlan-after .ensures) at (after-10 m (g .flow2 .ensures) (h .first-hits .ensures .1) .goes (v .before .if2 .left)) in
-    nowhere _ (c .dropped3 .ensures) ∙ sym (on ∙ far ∙ after-50 m (k .flow3 .ensures) (k .before .last-hit .ensures) .ends (c .before .if3 .taken))
-
-returns-4 : tie.Need-returns-4
-unfolding exitIn
-returns-4 c =
-    let k = c .before .before .before in
-    let v = k .before .before in
-    let g = v .before .before .before .before in
-    let f = g .before .before .before .before in
-    let h = f .before .before .before in
-    let m = h .before .args .mac in
-    let on = after-0 m (f .flow .ensures) (h .first-hits .ensures .0) .goes (g .before .if1 .left) in
-    let far = rw (← v .vlan-after .ensures) at (after-10 m (g .flow2 .ensures) (h .first-hits .ensures .1) .goes (v .before .if2 .left)) in
-    sym (on ∙ far ∙ after-50 m (k .flow3 .ensures) (k .before .last-hit .ensures) .goes (c .if3 .left))
+    let a = h .before .args in
+    let on = after-0 (a .port) (headersIn (a .h)) (f .flow .ensures) (h .first-hits .ensures .0) .goes (g .before .if1 .left) in
+    let far = rw (← v .vlan-after .ensures) at (after-10 (a .port) (headersIn (a .h)) (g .flow2 .ensures) (h .first-hits .ensures .1) .goes (v .before .if2 .left)) in
+    let out = rw (w .with-vlan .ensures .0, w .with-vlan .ensures .1) at (c .from-20 .ensures) in
+    out ∙ (with-vlan (liveFlows (a .count) (a .rows .now)) (a .port) (v .vlan-after .result) (headersIn (a .h)) ∙ sym (on ∙ far))
 
 pub way-spec : {M : Type 1} → statement M
 way-spec =
@@ -87,8 +75,6 @@ way-spec =
     dropped-requires-2
     returns-2
     vlan-after-requires
-    last-hit-requires
-    flow-requires-3
-    dropped-requires-3
-    returns-3
-    returns-4)
+    with-vlan-requires
+    from-20-requires
+    returns-3)

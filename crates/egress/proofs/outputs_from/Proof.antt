@@ -1,18 +1,15 @@
+use mathlib.Core.Path.{_≡_, _∙_}
 use Rattle.rules.specs.Tables.{liveFlows, liveGroups}
-use Rattle.rules.specs.Frame.{frameMac, keep, way}
+use Rattle.rules.specs.Frame.{keep, way}
+use Rattle.deciding.specs.Way.{exitIn}
 use Rattle.outputs.proofs.Writing.{lists-none, room}
-use mathlib.Core.Path.{_∙_}
-use Rattle.deciding.proofs.Tables.{way-whole}
 use Rattle.egress.proofs.Outcomes.{out-found, out-none}
 use borrow.Author.Needs.{needs}
 use Rattle.egress.proofs.outputs_from.Statement.{statement}
 use Rattle.egress.proofs.outputs_from.Tie as tie
 
-frame-vlan-requires : tie.Need-frame-vlan-requires
-frame-vlan-requires c κs = search needs
-
-le48-requires : tie.Need-le48-requires
-le48-requires c κs = search needs
+headers-of-requires : tie.Need-headers-of-requires
+headers-of-requires c κs = search needs
 
 way-requires : tie.Need-way-requires
 way-requires c κs = search needs
@@ -24,35 +21,33 @@ same-length : tie.Need-same-length
 same-length c = search needs
 
 returns : tie.Need-returns
-unfolding frameMac
+unfolding way
 returns c =
-    let w = c .before .before .before .before .before in
-    let a = w .before .before .before .before .before .args in
+    let t = c .before .before .before .before in
+    let w = t .before in
+    let a = w .before .before .before .before .args in
     let flows = liveFlows (a .counts .flows) (a .flows .now) in
     let groups = liveGroups (a .counts .groups) (a .heads .now) (a .members .now) in
-    let e = w .way .ensures ∙ way-whole flows (a .port) (w .before .le48 .result) (w .before .before .frame-vlan .result) (a .f .now)
-    (w .before .le48 .ensures) (w .before .before .frame-vlan .ensures) in
+    let e : exitIn (w .way .result) ≡ way flows (a .port) (a .f .now) = rw (← w .before .headers-of .ensures) (w .way .ensures) in
     rw
-    (out-found groups (w .way .result) (way flows (a .port) (a .f .now)) e (c .before .before .before .before .if1 .taken))
+    (out-found groups (w .way .result) (way flows (a .port) (a .f .now)) e (t .if1 .taken))
     (rw (room _ (a .list .now) (search needs)) at (c .before .before .group-outputs .ensures))
 
 returns-2 : tie.Need-returns-2
-unfolding frameMac keep
+unfolding way keep
 returns-2 c =
     let w = c .before in
-    let a = w .before .before .before .before .before .args in
+    let a = w .before .before .before .before .args in
     let flows = liveFlows (a .counts .flows) (a .flows .now) in
     let groups = liveGroups (a .counts .groups) (a .heads .now) (a .members .now) in
-    let e = w .way .ensures ∙ way-whole flows (a .port) (w .before .le48 .result) (w .before .before .frame-vlan .result) (a .f .now)
-    (w .before .le48 .ensures) (w .before .before .frame-vlan .ensures) in
+    let e : exitIn (w .way .result) ≡ way flows (a .port) (a .f .now) = rw (← w .before .headers-of .ensures) (w .way .ensures) in
     rw (out-none groups (w .way .result) (way flows (a .port) (a .f .now)) e (c .if1 .left)) (lists-none (a .list .now))
 
 pub outputs-from-spec : {M : Type 1} → statement M
 outputs-from-spec =
     tie.close
     (tie.spec
-    frame-vlan-requires
-    le48-requires
+    headers-of-requires
     way-requires
     group-outputs-requires
     same-length

@@ -1,6 +1,5 @@
-use Rattle.rules.specs.Tables.{liveGroups}
-use Rattle.rules.proofs.GroupId.{vlan-below}
-use Rattle.outputs.proofs.Outputs.{group-outputs}
+-- `outputs::group_outputs` meets its contract.
+-- Assumes nothing.
 use Rattle.outputs.proofs.Writing.{no-room, room}
 use native.Mathlib.Omega.{arith}
 use borrow.Author.Needs.{needs}
@@ -13,32 +12,21 @@ returns c = no-room _ (c .before .before .before .before .args .list .now) (c .i
 members-of-requires : tie.Need-members-of-requires
 members-of-requires c κs = search needs
 
-vlan-of-requires : tie.Need-vlan-of-requires
-vlan-of-requires c κs = search needs
-
 resolve-requires : tie.Need-resolve-requires
-resolve-requires c κs = (rw (c .before .vlan-of .ensures) (vlan-below _), search needs)
+resolve-requires c κs = search needs
 
 same-length : tie.Need-same-length
 same-length c = search needs
 
 returns-2 : tie.Need-returns-2
 returns-2 c =
-    let v = c .before .before .before .before in
-    let t = v .before .before in
+    let m = c .before .before .before .before in
+    let t = m .before in
     let l = t .before in
     let a = l .before .before .before .args in
-    rw
-    (room _ (a .list .now) (t .if1 .left), group-outputs (liveGroups (a .count) (a .heads .now) (a .members .now)) (a .vlan) (a .id), ← v .before .members-of .ensures, ← v .vlan-of .ensures)
+    rw (room _ (a .list .now) (t .if1 .left), ← m .members-of .ensures)
     (c .before .before .resolve .ensures .is (a .members .now) (omega (arith, l .before .all .given, l .lows .given)))
 
 pub group-outputs-spec : {M : Type 1} → statement M
 group-outputs-spec =
-    tie.close
-    (tie.spec
-    returns
-    members-of-requires
-    vlan-of-requires
-    resolve-requires
-    same-length
-    returns-2)
+    tie.close (tie.spec returns members-of-requires resolve-requires same-length returns-2)

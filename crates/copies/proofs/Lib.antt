@@ -1,0 +1,2 @@
+-- Laws of numbers copied into a list.
+pub mod Copying

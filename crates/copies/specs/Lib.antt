@@ -1,0 +1,2 @@
+-- What the writing of one output is held to.
+pub mod Copies

@@ -1,0 +1,2 @@
+-- What the reading of a frame is held to.
+pub mod Address
