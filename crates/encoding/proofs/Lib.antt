@@ -1,3 +1,4 @@
+pub mod Words
 pub mod Splicing
 pub mod Regions
 pub mod Written

@@ -44,6 +44,11 @@ pub length-number : (kind w v : ℕ) → 1 ≤ w → w ≤ 8 → length (tlvOf (
 length-number kind w v l h =
     rw (tlv-number kind w v l h) (simp (length-append, length-lead, length-bytesOf, length-replicate) (omega arith))
 
+-- one of 16 bytes has no fill
+pub tlv-wide : (kind v : ℕ) → tlvOf (fieldOf kind (bytesOf 16 v)) ≡ lead kind 16 ++ bytesOf 16 v
+unfolding filled
+tlv-wide kind v = rw (length-bytesOf 16 v) at (tlv-full kind (bytesOf 16 v) (rw (length-bytesOf 16 v)))
+
 -- eight zeros, those that a value goes over and those of its fill
 pub zeros-split : (w : ℕ) → w ≤ 8 → bytesOf 8 0 ≡ replicate w 0 ++ replicate (8 - w) 0
 unfolding bytesOf

@@ -1,12 +1,12 @@
 -- What the functions put, on plain values: bytes one after another are one writing of both (`puts-on`), a nest and a payload are
 -- their region with the bytes in front of it. A loop has put some bytes of a whole and is left with the rest (`Going`).
 -- Assumes nothing.
-use Prim.Native.Nat.{ℕ, _+_, _-_, _≤_}
+use Prim.Native.Nat.{ℕ, _+_, _-_, _*_, _^_, _≤_, _<_}
 use mathlib.Core.Path.{_≡_, refl, sym, _∙_}
 use mathlib.Core.List.{List, [], _∷_, _++_, append-assoc, append-nil}
 use native.Mathlib.Omega.{arith}
 use lib.ListN.{length, replicate, length-append, length-replicate}
-use Rattle.rules.specs.Bytes.{bytesOf, splice}
+use Rattle.rules.specs.Bytes.{bytesOf, splice, swapped}
 use Rattle.rules.specs.Version.{current, headerBytes}
 use Rattle.rules.specs.Region.{lengthField}
 use Rattle.rules.specs.Encode.{Field, fieldOf, tlvOf, regionOf, payloadOf}
@@ -14,7 +14,8 @@ use Rattle.rules.proofs.Bytes.{length-bytesOf, splice-nil}
 use Rattle.wire.specs.Put.{put}
 use Rattle.encoding.specs.Writing.{lead, top, Puts}
 use Rattle.encoding.proofs.Splicing.{length-splice, splice-behind, splice-front, splice-start, put-is, put-behind}
-use Rattle.encoding.proofs.Regions.{length-lead, length-top, length-number, tlv-none, tlv-number, tlv-region, zeros-split}
+use Rattle.encoding.proofs.Regions.{length-lead, length-top, length-number, tlv-none, tlv-number, tlv-wide, tlv-region, zeros-split}
+use Rattle.encoding.proofs.Words.{wide-bytes}
 
 -- ---- A TLV
 
@@ -58,6 +59,25 @@ number-put at kind w v s t z k h e =
     record {
       buffer-is = rw (e, number-over at w v (lead kind w) s (length-lead kind w) h k, tlv-number kind w v (omega arith) k);
       end-is = rw (length-number kind w v (omega arith) k);
+      at-most = omega arith;
+    }
+
+-- a number of two words, big-endian, behind the first eight bytes
+pub wide-put : (at kind h l : ℕ) (s t : List ℕ) → l < 2 ^ 64 → at + 24 ≤ length s → t ≡ splice at (lead kind 16) s
+    → Puts (at + 24) (put (at + 16) 8 (swapped 8 l) (put (at + 8) 8 (swapped 8 h) t)) at (tlvOf (fieldOf kind (bytesOf 16 (swapped 16 (h * 2 ^ 64 + l))))) s 24
+wide-put at kind h l s t fits k e =
+    let a = lead kind 16 ++ bytesOf 8 (swapped 8 h) in
+    let n : length a ≡ 16 = simp (length-append, length-lead, length-bytesOf) in
+    let is : tlvOf (fieldOf kind (bytesOf 16 (swapped 16 (h * 2 ^ 64 + l)))) ≡ a ++ bytesOf 8 (swapped 8 l) =
+    tlv-wide kind (swapped 16 (h * 2 ^ 64 + l)) ∙ rw (wide-bytes h l fits) (sym (append-assoc (lead kind 16) (bytesOf 8 (swapped 8 h)) (bytesOf 8 (swapped 8 l)))) in
+    record {
+      buffer-is = rw (
+        e,
+        put-behind at 8 8 (swapped 8 h) (lead kind 16) s (length-lead kind 16) (omega arith),
+        put-behind at 16 8 (swapped 8 l) a s n (omega arith),
+        is,
+      );
+      end-is = rw (is, length-append, n, length-bytesOf) (omega arith);
       at-most = omega arith;
     }
 
@@ -131,8 +151,8 @@ pub record Going (whole rest : List ℕ) (at : ℕ) (before : List ℕ) (most en
 pub going-starts : {at : ℕ} {s : List ℕ} (whole : List ℕ) → Going whole whole at s 0 at s
 going-starts whole = record { done = []; is = refl; puts = puts-none 0 }
 
-pub going-on : {whole rest s t u a : List ℕ} {at m r x : ℕ} (rest' : List ℕ) (most : ℕ) → at ≤ length s → x + 16 ≤ most → rest ≡ a ++ rest'
-    → Going whole rest at s x m t → Puts r u m a t 16 → Going whole rest' at s most r u
+pub going-on : {whole rest s t u a : List ℕ} {at m r x y : ℕ} (rest' : List ℕ) (most : ℕ) → at ≤ length s → x + y ≤ most → rest ≡ a ++ rest'
+    → Going whole rest at s x m t → Puts r u m a t y → Going whole rest' at s most r u
 going-on {a = a} rest' most h k e g p =
     record {
       done = g .done ++ a;

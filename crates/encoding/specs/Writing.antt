@@ -3,6 +3,7 @@ use Prim.Native.Nat.{ℕ, _+_, _-_, _≤_}
 use mathlib.Core.Path.{_≡_}
 use mathlib.Core.List.{List, _++_}
 use lib.ListN.{length}
+use mathlib.Core.Bool.{Bool, _||_}
 use lib.Dec.{eqb}
 use Rattle.rules.specs.Choose.{choose}
 use Rattle.rules.specs.Bytes.{bytesOf, splice}
@@ -30,9 +31,13 @@ lead kind size = bytesOf 4 kind ++ (bytesOf 2 (lengthField (headerBytes current)
 unfoldable pub top : ℕ → ℕ → List ℕ
 top command end = tlvOf (fieldOf 1 (bytesOf 2 command)) ++ lead 2 (end - 24)
 
+-- the types whose values have 16 bytes, DST_IPV6 and its mask
+abbrev pub isWide : ℕ → Bool
+isWide t = eqb t 38 || eqb t 39
+
 -- who reads the fields of a command
-unfoldable pub flowUserOf : ℕ → ℕ → ℕ
-flowUserOf command table = choose (eqb command 5) flowDel (flowUser table)
+unfoldable pub flowUserOf : ℕ → ℕ → ℕ → ℕ
+flowUserOf command table ethertype = choose (eqb command 5) flowDel (flowUser table ethertype)
 
 unfoldable pub groupUserOf : ℕ → ℕ → ℕ
 groupUserOf command id = choose (eqb command 9) groupDel (groupUser id)

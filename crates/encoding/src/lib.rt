@@ -5,17 +5,20 @@ use rules::GroupEntry;
 use rules::MAX_MEMBERS;
 use rules::Members;
 ghost use mathlib.Core.Path.{_≡_};
-ghost use Prim.Native.Nat.{_+_, _*_, _≤_};
-ghost use lib.ListN.{length, take};
+ghost use Prim.Native.Nat.{_+_, _*_, _-_, _/_, _^_, _≤_, _<_};
+ghost use mathlib.Core.Bool.{false};
+ghost use lib.ListN.{length, take, getD};
 ghost use Rattle.rules.specs.Choose.{choose};
-ghost use Rattle.rules.specs.Bytes.{bytesOf, splice, swap16};
+ghost use Rattle.rules.specs.Bytes.{bytesOf, splice, swap16, swapped as Bytes·swapped};
 ghost use Rattle.rules.specs.Version.{current, headerBytes};
 ghost use Rattle.rules.specs.Region.{lengthField};
-ghost use Rattle.rules.specs.Fields.{group0, groupMany};
+ghost use Rattle.rules.specs.Address.{prefixMask};
+ghost use Rattle.rules.specs.Decode.{flowUser};
+ghost use Rattle.rules.specs.Fields.{group0, group2, groupMany};
 ghost use Rattle.rules.specs.Encode.{fieldOf, tlvOf, regionOf, numberBytes, fieldsFrom, flowHas, flowValue, flowBytes, flowFields, memberFields, groupFields};
 ghost use Rattle.rules.specs.GroupId.{groupVlan, memberId};
 ghost use Rattle.rules.specs.Undo.{flowPayload, groupPayload};
-ghost use Rattle.encoding.specs.Writing.{longest, lead, top, flowUserOf, groupUserOf, Puts};
+ghost use Rattle.encoding.specs.Writing.{longest, lead, top, isWide, flowUserOf, groupUserOf, Puts};
 
 // Bytes of a payload, at most: a group of 62 members.
 pub const LONGEST: usize = 1056;
@@ -71,13 +74,48 @@ fn put_number(out: &mut [u8], at: usize, kind: u32, width: u8, v: u64) -> usize
     at + 16
 }
 
-// A field of CMD_INFO, at the width of its row.
+// A field of CMD_INFO, at the width of its row; not one of 16 bytes.
 fn put_field(out: &mut [u8], at: usize, kind: u32, v: u64) -> usize
-    requires { ⌜ at + 16 ≤ length (now out) ⌝ }
+    requires { ⌜ (at + 16 ≤ length (now out)) × (isWide kind ≡ false) ⌝ }
     ensures { λ r. ⌜ Puts r (now (out .exit)) at (tlvOf (fieldOf kind (numberBytes kind v))) (now (out .entry)) 16 ⌝ }
 {
     let rule = fields::rule_of(kind);
     put_number(out, at, kind, rule.width, v)
+}
+
+// The TLV of a number of 16 bytes, which is big-endian, from two words.
+fn put_wide(out: &mut [u8], at: usize, kind: u32, high: u64, low: u64) -> usize
+    requires { ⌜ at + 24 ≤ length (now out) ⌝ }
+    ensures { λ r. ⌜ Puts r (now (out .exit)) at (tlvOf (fieldOf kind (bytesOf 16 (Bytes·swapped 16 (high * 2 ^ 64 + low))))) (now (out .entry)) 24 ⌝ }
+{
+    put_lead(out, at, kind, 16);
+    wire::put(out, at + 8, 8, wire::turned(high, 8));
+    wire::put(out, at + 16, 8, wire::turned(low, 8));
+    at + 24
+}
+
+// ---- Masks
+
+const ALL_ONES: u64 = 0xffffffffffffffff;
+
+// A word whose first n bits are ones; all are, from 64 on.
+fn ones(n: u8) -> u64
+    ensures { λ r. ⌜ r ≡ prefixMask 64 n ⌝ }
+{
+    if 64 <= n {
+        return ALL_ONES;
+    }
+    ALL_ONES - (ALL_ONES >> n)
+}
+
+// The word behind that one, in a mask of two words.
+fn more_ones(n: u8) -> u64
+    ensures { λ r. ⌜ r ≡ prefixMask 64 (n - 64) ⌝ }
+{
+    if n <= 64 {
+        return 0;
+    }
+    ones(n - 64)
 }
 
 // ---- Flows
@@ -105,8 +143,42 @@ fn swapped(v: u16) -> u64
     (v % 256 * 256 + v / 256) as u64
 }
 
+// The upper half of a word, whose four bytes are big-endian.
+fn upper(word: u64) -> u64
+    ensures { λ r. ⌜ r ≡ Bytes·swapped 4 (word / 2 ^ 32) ⌝ }
+{
+    wire::turned(word / 0x100000000, 4)
+}
+
+// The number of a field that stands in a frame's headers: VLANs, ETHERTYPE, the MAC, and an IPv4 address and its mask.
+fn header_value(e: FlowEntry, t: u32) -> u64
+    requires { ⌜ (10 < t) × (isWide t ≡ false) ⌝ }
+    ensures { λ r. ⌜ r ≡ flowValue e t ⌝ }
+{
+    if t == fields::VLAN_ID {
+        return swapped(e.vlan_id);
+    }
+    if t == fields::NEW_VLAN_ID {
+        return swapped(e.new_vlan_id);
+    }
+    if t == fields::ETHERTYPE {
+        return swapped(e.ethertype);
+    }
+    if t == fields::DST_MAC {
+        return e.dst_mac;
+    }
+    if t == fields::DST_IP {
+        return upper(e.address_high);
+    }
+    if t == fields::DST_IP_MASK {
+        return upper(ones(e.prefix));
+    }
+    0
+}
+
 // The number of a field of a flow.
 fn flow_value(e: FlowEntry, t: u32) -> u64
+    requires { ⌜ isWide t ≡ false ⌝ }
     ensures { λ r. ⌜ r ≡ flowValue e t ⌝ }
 {
     if t == fields::TBL {
@@ -136,37 +208,45 @@ fn flow_value(e: FlowEntry, t: u32) -> u64
     if t == fields::GROUP_ID {
         return e.group_id as u64;
     }
-    if t == fields::VLAN_ID {
-        return swapped(e.vlan_id);
+    if t < fields::GROUP_ID {
+        return 0;
     }
-    if t == fields::NEW_VLAN_ID {
-        return swapped(e.new_vlan_id);
+    header_value(e, t)
+}
+
+// A field of a flow, by its type, and where it ends.
+fn put_flow_value(out: &mut [u8], at: usize, e: FlowEntry, t: u32) -> usize
+    requires { ⌜ at + 24 ≤ length (now out) ⌝ }
+    ensures { λ r. ⌜ Puts r (now (out .exit)) at (tlvOf (fieldOf t (flowBytes e t))) (now (out .entry)) 24 ⌝ }
+{
+    if t == fields::DST_IPV6 {
+        return put_wide(out, at, t, e.address_high, e.address_low);
     }
-    if t == fields::DST_MAC {
-        return e.dst_mac;
+    if t == fields::DST_IPV6_MASK {
+        return put_wide(out, at, t, ones(e.prefix), more_ones(e.prefix));
     }
-    0
+    put_field(out, at, t, flow_value(e, t))
 }
 
 // The field of one type, where a flow has it and one who reads uses it, and where it ends.
-fn put_flow_field(out: &mut [u8], at: usize, who: u8, e: FlowEntry, t: u32) -> usize
-    requires { ⌜ at + 16 ≤ length (now out) ⌝ }
-    ensures { λ r. ⌜ Puts r (now (out .exit)) at (regionOf (fieldsFrom who (flowHas e) (flowBytes e) 1 t)) (now (out .entry)) 16 ⌝ }
+fn put_flow_field(out: &mut [u8], at: usize, who: u16, e: FlowEntry, t: u32) -> usize
+    requires { ⌜ at + 24 ≤ length (now out) ⌝ }
+    ensures { λ r. ⌜ Puts r (now (out .exit)) at (regionOf (fieldsFrom who (flowHas e) (flowBytes e) 1 t)) (now (out .entry)) 24 ⌝ }
 {
     let rule = fields::rule_of(t);
     if fields::has_user(rule.uses, who) & flow_has(e, t) {
-        return put_field(out, at, t, flow_value(e, t));
+        return put_flow_value(out, at, e, t);
     }
     at
 }
 
-// The fields of a flow that one who uses them has, and where they end.
-fn put_flow_fields(out: &mut [u8], at: usize, who: u8, e: FlowEntry) -> usize
-    requires { ⌜ at + 704 ≤ length (now out) ⌝ }
-    ensures { λ r. ⌜ Puts r (now (out .exit)) at (regionOf (flowFields who e)) (now (out .entry)) 704 ⌝ }
+// The fields of a flow that one who uses them has, and where they end. No field has type 0.
+fn put_flow_fields(out: &mut [u8], at: usize, who: u16, e: FlowEntry) -> usize
+    requires { ⌜ at + 1032 ≤ length (now out) ⌝ }
+    ensures { λ r. ⌜ Puts r (now (out .exit)) at (regionOf (flowFields who e)) (now (out .entry)) 1032 ⌝ }
 {
     let mut end = at;
-    let mut t: u32 = 0;
+    let mut t: u32 = 1;
     while t < FIELD_TYPES as u32 {
         end = put_flow_field(out, end, who, e, t);
         t += 1;
@@ -174,9 +254,19 @@ fn put_flow_fields(out: &mut [u8], at: usize, who: u8, e: FlowEntry) -> usize
     end
 }
 
+// Who reads a route's fields, by the family of its address.
+fn route_user(ethertype: u16) -> u16
+    ensures { λ r. ⌜ r ≡ flowUser 30 ethertype ⌝ }
+{
+    if addresses::is_ipv6(ethertype) {
+        return fields::FLOW_30_V6;
+    }
+    fields::FLOW_30_V4
+}
+
 // Who reads a flow's fields: add and mod by the flow's table, or del.
-fn flow_user(command: u16, table: u16) -> u8
-    ensures { λ r. ⌜ r ≡ flowUserOf command table ⌝ }
+fn flow_user(command: u16, table: u16, ethertype: u16) -> u16
+    ensures { λ r. ⌜ r ≡ flowUserOf command table ethertype ⌝ }
 {
     if command == FLOW_DEL {
         return fields::FLOW_DEL;
@@ -186,6 +276,12 @@ fn flow_user(command: u16, table: u16) -> u8
     }
     if table == 10 {
         return fields::FLOW_10;
+    }
+    if table == 20 {
+        return fields::FLOW_20;
+    }
+    if table == 30 {
+        return route_user(ethertype);
     }
     fields::FLOW_50
 }
@@ -204,7 +300,7 @@ pub fn flow(out: &mut [u8], command: u16, e: FlowEntry) -> usize
     requires { ⌜ longest ≤ length (now out) ⌝ }
     ensures { λ r. ⌜ Puts r (now (out .exit)) 0 (flowPayload command e) (now (out .entry)) longest ⌝ }
 {
-    let end = put_flow_fields(out, 24, flow_user(command, e.table), e);
+    let end = put_flow_fields(out, 24, flow_user(command, e.table, e.ethertype), e);
     put_top(out, command, end);
     end
 }
@@ -237,6 +333,13 @@ fn member_id(vlan: u16, low: u16) -> u64
     vlan as u64 * 65536 + low as u64
 }
 
+// The ID of a group's first member, which has a VLAN that is given.
+fn lower_id(vlan: u16, members: Members) -> u64
+    ensures { λ r. ⌜ r ≡ memberId vlan (getD members 0 0) ⌝ }
+{
+    member_id(vlan, members[0])
+}
+
 // GROUP_IDS: its members, and then the bytes in front of them.
 fn put_nest(out: &mut [u8], at: usize, id: u32, count: usize, members: Members) -> usize
     requires { ⌜ at + 1000 ≤ length (now out) ⌝ }
@@ -266,6 +369,21 @@ fn put_single(out: &mut [u8], at: usize, e: GroupEntry) -> usize
     put_field(out, b, fields::POP_VLAN, flag(e.pop_vlan))
 }
 
+// The fields of a group of type 2. Its one member is the lower group.
+fn put_routing(out: &mut [u8], at: usize, e: GroupEntry) -> usize
+    requires { ⌜ at + 80 ≤ length (now out) ⌝ }
+    ensures { λ r. ⌜ Puts r (now (out .exit)) at (regionOf (groupFields group2 e)) (now (out .entry)) 80 ⌝ }
+{
+    let id = e.id;
+    let vlan = e.vlan_id;
+    let members = e.members;
+    let a = put_field(out, at, fields::GROUP_ID, id as u64);
+    let b = put_field(out, a, fields::GROUP_ID_LOWER, lower_id(vlan, members));
+    let c = put_field(out, b, fields::VLAN_ID, swapped(vlan));
+    let d = put_field(out, c, fields::DST_MAC, e.dst_mac);
+    put_field(out, d, fields::SRC_MAC, e.src_mac)
+}
+
 // The fields of a group of type 3 or 4.
 fn put_many(out: &mut [u8], at: usize, e: GroupEntry) -> usize
     requires { ⌜ at + 1032 ≤ length (now out) ⌝ }
@@ -288,8 +406,12 @@ fn put_group_fields(out: &mut [u8], at: usize, command: u16, e: GroupEntry) -> u
     if command == GROUP_DEL {
         return put_field(out, at, fields::GROUP_ID, id as u64);
     }
-    if group_id::type_of(id) == 0 {
+    let t = group_id::type_of(id);
+    if t == 0 {
         return put_single(out, at, e);
+    }
+    if group_id::is_routing(t) {
+        return put_routing(out, at, e);
     }
     put_many(out, at, e)
 }

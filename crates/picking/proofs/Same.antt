@@ -25,14 +25,17 @@ pub flow-same : (a b : FlowEntry)
     → eqb (a .cookie) (b .cookie) && eqb (a .«dst_mac») (b .«dst_mac») && eqb (a .priority) (b .priority) && eqb (a .hardtime) (b .hardtime)
     && eqb (a .idletime) (b .idletime) && eqb (a .«in_pport») (b .«in_pport») && eqb (a .«in_pport_mask») (b .«in_pport_mask»)
     && eqb (a .«group_id») (b .«group_id») && eqb (a .table) (b .table) && eqb (a .«goto_tbl») (b .«goto_tbl»)
-    && eqb (a .«vlan_id») (b .«vlan_id») && eqb (a .«new_vlan_id») (b .«new_vlan_id») && Bool·beq (a .«has_mac») (b .«has_mac»)
-    && Bool·beq (a .«has_group») (b .«has_group»)
+    && eqb (a .«vlan_id») (b .«vlan_id») && eqb (a .«new_vlan_id») (b .«new_vlan_id») && eqb (a .ethertype) (b .ethertype)
+    && eqb (a .prefix) (b .prefix) && eqb (a .«address_high») (b .«address_high») && eqb (a .«address_low») (b .«address_low»)
+    && Bool·beq (a .«has_mac») (b .«has_mac») && Bool·beq (a .«has_group») (b .«has_group»)
     ≡ sameFlow a b
 unfolding sameFlow
 flow-same a b = rw (beq-same (a .«has_mac») (b .«has_mac»), beq-same (a .«has_group») (b .«has_group»)) refl
 
 pub group-same : (a b : GroupEntry) {m : Bool} → m ≡ sameList (a .members) (b .members)
-    → eqb (a .id) (b .id) && Bool·beq (a .«pop_vlan») (b .«pop_vlan») && eqb (a .«member_count») (b .«member_count») && m ≡ sameGroup a b
+    → eqb (a .id) (b .id) && Bool·beq (a .«pop_vlan») (b .«pop_vlan») && eqb (a .«member_count») (b .«member_count»)
+    && eqb (a .«vlan_id») (b .«vlan_id») && eqb (a .«src_mac») (b .«src_mac») && eqb (a .«dst_mac») (b .«dst_mac») && m
+    ≡ sameGroup a b
 unfolding sameGroup
 group-same a b e = rw (e, beq-same (a .«pop_vlan») (b .«pop_vlan»)) refl
 

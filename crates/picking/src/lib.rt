@@ -45,6 +45,10 @@ fn same_flow(a: FlowEntry, b: FlowEntry) -> bool
         & (a.goto_tbl == b.goto_tbl)
         & (a.vlan_id == b.vlan_id)
         & (a.new_vlan_id == b.new_vlan_id)
+        & (a.ethertype == b.ethertype)
+        & (a.prefix == b.prefix)
+        & (a.address_high == b.address_high)
+        & (a.address_low == b.address_low)
         & (a.has_mac == b.has_mac)
         & (a.has_group == b.has_group)
 }
@@ -57,6 +61,9 @@ fn same_group(a: GroupEntry, b: GroupEntry) -> bool
     (a.id == b.id)
         & (a.pop_vlan == b.pop_vlan)
         & (a.member_count == b.member_count)
+        & (a.vlan_id == b.vlan_id)
+        & (a.src_mac == b.src_mac)
+        & (a.dst_mac == b.dst_mac)
         & same_members(own, other)
 }
 

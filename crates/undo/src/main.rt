@@ -4,14 +4,16 @@ mod reading;
 use input::files;
 use libc::STDERR_FILENO;
 use libc::STDOUT_FILENO;
+use rules::FLOW_WORDS;
+use rules::HEAD_WORDS;
 use rules::MAX_FLOWS;
 use rules::MAX_GROUPS;
 use rules::MAX_MEMBERS;
 use text::Numeral;
 use undoing::Undone;
 
-// More than the longest list has: 768 payloads, 195,072 bytes.
-const ROOM: usize = 196608;
+// More than the longest list has: 768 payloads, 203,264 bytes.
+const ROOM: usize = 204800;
 
 fn help() {
     files::say(STDOUT_FILENO, b"undo N FILE OUT\n");
@@ -85,11 +87,11 @@ fn finish(u: Undone, room: &[u8], out: &[u8]) {
 
 // A journal that cannot be read prints nothing on standard output and leaves OUT alone.
 fn undo(n: u64, path: &[u8], out: &[u8]) {
-    let mut flows = [[0u32; 16]; MAX_FLOWS];
-    let mut heads = [[0u32; 3]; MAX_GROUPS];
+    let mut flows = [[0u32; FLOW_WORDS]; MAX_FLOWS];
+    let mut heads = [[0u32; HEAD_WORDS]; MAX_GROUPS];
     let mut members = [[0u16; MAX_MEMBERS]; MAX_GROUPS];
-    let mut early_flows = [[0u32; 16]; MAX_FLOWS];
-    let mut early_heads = [[0u32; 3]; MAX_GROUPS];
+    let mut early_flows = [[0u32; FLOW_WORDS]; MAX_FLOWS];
+    let mut early_heads = [[0u32; HEAD_WORDS]; MAX_GROUPS];
     let mut early_members = [[0u16; MAX_MEMBERS]; MAX_GROUPS];
     let d = reading::read_file(
         path,

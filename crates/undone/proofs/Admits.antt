@@ -1,7 +1,7 @@
 -- What decoding gives is admitted: numbers fit since bytes do, a field that is not there reads 0, and the tests of decoding are those of an
 -- admitted entry. Changes of a table keep what holds of each entry, so every payload of bytes keeps admitted tables.
 -- Assumes nothing.
-use Prim.Native.Nat.{ℕ, zero, suc, _+_, _≤_, _<_, _^_}
+use Prim.Native.Nat.{ℕ, zero, suc, _+_, _≤_, _<_, _-_, _*_, _^_}
 use mathlib.Core.Bool.{Bool, true, false, not, _&&_, _||_}
 use mathlib.Core.Path.{_≡_, refl, sym, _∙_}
 use mathlib.Core.List.{List, [], _∷_, _++_, append-assoc, append-nil}
@@ -15,19 +15,21 @@ use Rattle.rules.specs.Choose.{choose}
 use Rattle.rules.specs.Limits.{maxPorts}
 use Rattle.rules.specs.Answers.{code}
 use Rattle.rules.specs.Bytes.{leAt, part, swap16}
+use Rattle.rules.specs.Version.{current, routes}
+use Rattle.rules.specs.Address.{isIpv6, addressBytes, addressBits, alignedHigh, alignedLow, addressIn}
 use Rattle.rules.specs.Fields.{rows, ruleIn, ruleOf, field, given, value, isAt, numberIn, nestIn, fieldsRight}
 use Rattle.rules.specs.Region.{tlvs, wellFormed}
 use Rattle.rules.specs.Keyed.{insert, replace, remove}
-use Rattle.rules.specs.GroupId.{groupType, groupVlan, groupLow, vlanAllowed, groupIdAllowed}
+use Rattle.rules.specs.GroupId.{groupType, groupVlan, groupLow, vlanAllowed, isRouting, groupIdAllowed}
 use Rattle.rules.specs.Members.{elem, memberRight, collect, membersIn, membersRight, pad}
-use Rattle.rules.specs.Decode.{headerOf, newVlanFits, matchAllowed, matchOf, flowOf, flowUser, isTable, flowIn, flowKeyIn, groupOf, membersOf, groupAllowed, groupUser, groupIn, groupKeyIn, refused, carried, need, commandIn, commandInfo, decode}
+use Rattle.rules.specs.Decode.{headerOf, ethertypeIn, addressField, addressOf, routeOf, newVlanFits, matchAllowed, matchOf, flowOf, flowUser, isTable, pairAlone, flowIn, flowKeyIn, groupOf, membersOf, lowerFits, groupAllowed, groupUser, groupIn, groupKeyIn, refused, carried, need, commandIn, commandInfo, decode}
 use Rattle.rules.specs.Tables.{Tables, storedFlow, flowEntry, groupEntry, cookieOf, idOf, emptyTables, withFlows, withGroups, commandEffect, decodedStatus, decodedEffect, executed, carryOut, execute}
 use Rattle.rules.specs.declared.Terms.{Terms}
 use Rattle.rules.specs.declared.Tlv.{Tlv}
 use Rattle.rules.specs.declared.Found.{Found}
 use Rattle.rules.specs.declared.Found.the-variants.{Absent, At, Fault}
 use Rattle.rules.specs.declared.Match.{Match}
-use Rattle.rules.specs.declared.Match.the-variants.{IngressPort, Vlan, Bridging}
+use Rattle.rules.specs.declared.Match.the-variants.{IngressPort, Vlan, TerminationMac, UnicastRouting, Bridging}
 use Rattle.rules.specs.declared.Flow.{Flow}
 use Rattle.rules.specs.declared.Group.{Group}
 use Rattle.rules.specs.declared.Status.{Status}
@@ -40,6 +42,7 @@ use Rattle.rules.specs.declared.Decoding.{Decoding}
 use Rattle.rules.specs.declared.GroupEntry.{GroupEntry}
 use Rattle.rules.proofs.Cases.{by-test, by-eq, and-left, and-right, not-both}
 use Rattle.rules.proofs.Bytes.{leAt-below}
+use Rattle.rules.proofs.Address.{swapped-below, aligned-in}
 use Rattle.rules.proofs.GroupId.{low-below}
 use Rattle.encoded.specs.Admitted.{AreBytes, matchIn, flowIn as storedFrom, hasNew, FlowAdmitted, Fresh, GroupAdmitted, Each, Admitted}
 
@@ -100,10 +103,27 @@ record CommonFits (f : Flow) : Type 0 where
   idletime-fits : f .idletime < 2 ^ 32
   goto-fits : f .«goto_tbl» < 2 ^ 16
 
+-- two words are those of the address that stands in them
+record Aligned (w high low : ℕ) : Type 0 where
+  fits : addressIn w high low < 2 ^ w
+  high-is : alignedHigh w (addressIn w high low) ≡ high
+  low-is : alignedLow w (addressIn w high low) ≡ low
+
+aligned : (w a : ℕ) → a < 2 ^ w → Aligned w (alignedHigh w a) (alignedLow w a)
+aligned w a h =
+    let e : addressIn w (alignedHigh w a) (alignedLow w a) ≡ a = aligned-in w a in
+    record { fits = rw e h; high-is = rw e; low-is = rw e }
+
+none-aligned : (w : ℕ) → Aligned w 0 0
+unfolding alignedHigh alignedLow
+none-aligned w = let z : 0 * 2 ^ (128 - w) ≡ 0 = omega arith in rw z at (aligned w 0 (one-le-pow w 2 (lit< tt)))
+
 -- those of one table, given whether NEW_VLAN_ID is there
 abbrev MatchFits : Bool → Match → Type 0
 MatchFits new (IngressPort p m) = (p < 2 ^ 32) × (m < 2 ^ 32)
 MatchFits new (Vlan p v n) = (p < 2 ^ 32) × (v < 2 ^ 16) × (n < 2 ^ 16) × (new ≡ false → n ≡ 0)
+MatchFits new (TerminationMac p type m v) = (p < 2 ^ 32) × (type < 2 ^ 16) × (m < 2 ^ 48) × (v < 2 ^ 16)
+MatchFits new (UnicastRouting type high low n hg id) = (type < 2 ^ 16) × Aligned (addressBits type) high low × (id < 2 ^ 32) × (hg ≡ false → id ≡ 0)
 MatchFits new (Bridging v hm m hg id) = (v < 2 ^ 16) × (m < 2 ^ 48) × (id < 2 ^ 32) × (hm ≡ false → m ≡ 0) × (hg ≡ false → id ≡ 0)
 
 common-fits : (h : ℕ) (s : List ℕ) (t : ℕ) → AreBytes s → CommonFits (flowOf h s t)
@@ -121,14 +141,27 @@ swap-zero : (v : ℕ) → v ≡ 0 → swap16 v ≡ 0
 unfolding swap16
 swap-zero v e = omega arith
 
+-- an address of either family, as it was given
+address-aligned : (h : ℕ) (s : List ℕ) (type : ℕ) → let a = addressOf h s type (addressField type) in
+    Aligned (addressBits type) (alignedHigh (addressBits type) a) (alignedLow (addressBits type) a)
+unfolding addressOf addressBits addressBytes
+address-aligned h s type =
+    let v = value h s (addressField type) in
+    aligned (addressBits type) (addressOf h s type (addressField type))
+    (by-test (isIpv6 type) (λ p. rw p (swapped-below 16 v)) (λ p. rw p (swapped-below 4 v)))
+
 match-fits : (h : ℕ) (s : List ℕ) (t : ℕ) → AreBytes s → MatchFits (given h s 19) (matchOf h s t)
-unfolding matchOf ruleOf ruleIn rows
+unfolding matchOf routeOf ethertypeIn ruleOf ruleIn rows
 match-fits h s t b =
     by-test (eqb t 0)
     (λ p. rw p (value-below h s 6 b, value-below h s 7 b))
     (λ p. by-test (eqb t 10)
     (λ q. rw (p, q) (value-below h s 6 b, swap-below (value h s 14), swap-below (value h s 19), λ e. swap-zero (value h s 19) (value-missing h s 19 e)))
-    (λ q. rw (p, q) (swap-below (value h s 14), value-below h s 24 b, value-below h s 10 b, value-missing h s 24, value-missing h s 10)))
+    (λ q. by-test (eqb t 20)
+    (λ r. rw (p, q, r) (value-below h s 6 b, swap-below (value h s 23), value-below h s 24 b, swap-below (value h s 14)))
+    (λ r. by-test (eqb t 30)
+    (λ u. rw (p, q, r, u) (swap-below (value h s 23), address-aligned h s (ethertypeIn h s), value-below h s 10 b, value-missing h s 10))
+    (λ u. rw (p, q, r, u) (swap-below (value h s 14), value-below h s 24 b, value-below h s 10 b, value-missing h s 24, value-missing h s 10)))))
 
 -- NEW_VLAN_ID is there exactly if VLAN_ID is 0
 new-there : (v : ℕ) (new : Bool) (n : ℕ) → newVlanFits v new n ≡ true → new ≡ eqb v 0
@@ -140,7 +173,7 @@ new-there v new n e =
 
 stored-admits : (terms : Terms) (f : Flow) (new : Bool) (m : Match) → CommonFits f → MatchFits new m
     → matchAllowed terms (f .«goto_tbl») new m ≡ true → FlowAdmitted (terms .ports) (storedFlow f m)
-unfolding storedFlow flowEntry storedFrom matchIn hasNew isTable matchAllowed
+unfolding storedFlow flowEntry storedFrom matchIn hasNew isTable routes matchAllowed isIpv6 addressBytes addressBits
 stored-admits terms f new (IngressPort p m) c h e =
     record {
       is-table = refl;
@@ -155,6 +188,10 @@ stored-admits terms f new (IngressPort p m) c h e =
       goto-fits = c .goto-fits;
       vlan-fits = lit< tt;
       new-fits = lit< tt;
+      ethertype-fits = lit< tt;
+      address-fits = none-aligned 32 .fits;
+      high-aligned = none-aligned 32 .high-is;
+      low-aligned = none-aligned 32 .low-is;
       stored = refl;
       no-new = λ x. refl;
       no-mac = λ x. refl;
@@ -177,11 +214,63 @@ stored-admits terms f new (Vlan p v n) c h e =
       goto-fits = c .goto-fits;
       vlan-fits = h .1;
       new-fits = h .2;
+      ethertype-fits = lit< tt;
+      address-fits = none-aligned 32 .fits;
+      high-aligned = none-aligned 32 .high-is;
+      low-aligned = none-aligned 32 .low-is;
       stored = refl;
       no-new = λ x. h .3 (there ∙ x);
       no-mac = λ x. refl;
       no-group = λ x. refl;
       allowed = rw (← there) e;
+    }
+stored-admits terms f new (TerminationMac p type m v) c h e =
+    record {
+      is-table = refl;
+      cookie-fits = c .cookie-fits;
+      mac-fits = h .2;
+      priority-fits = c .priority-fits;
+      hardtime-fits = c .hardtime-fits;
+      idletime-fits = c .idletime-fits;
+      port-fits = h .0;
+      mask-fits = lit< tt;
+      group-fits = lit< tt;
+      goto-fits = c .goto-fits;
+      vlan-fits = h .3;
+      new-fits = lit< tt;
+      ethertype-fits = h .1;
+      address-fits = none-aligned (addressBits type) .fits;
+      high-aligned = none-aligned (addressBits type) .high-is;
+      low-aligned = none-aligned (addressBits type) .low-is;
+      stored = refl;
+      no-new = λ x. refl;
+      no-mac = λ x. not-both x;
+      no-group = λ x. refl;
+      allowed = e;
+    }
+stored-admits terms f new (UnicastRouting type high low n hg id) c h e =
+    record {
+      is-table = refl;
+      cookie-fits = c .cookie-fits;
+      mac-fits = lit< tt;
+      priority-fits = c .priority-fits;
+      hardtime-fits = c .hardtime-fits;
+      idletime-fits = c .idletime-fits;
+      port-fits = lit< tt;
+      mask-fits = lit< tt;
+      group-fits = h .2;
+      goto-fits = c .goto-fits;
+      vlan-fits = lit< tt;
+      new-fits = lit< tt;
+      ethertype-fits = h .0;
+      address-fits = h .1 .fits;
+      high-aligned = h .1 .high-is;
+      low-aligned = h .1 .low-is;
+      stored = refl;
+      no-new = λ x. refl;
+      no-mac = λ x. refl;
+      no-group = h .3;
+      allowed = e;
     }
 stored-admits terms f new (Bridging v hm m hg id) c h e =
     record {
@@ -197,6 +286,10 @@ stored-admits terms f new (Bridging v hm m hg id) c h e =
       goto-fits = c .goto-fits;
       vlan-fits = h .0;
       new-fits = lit< tt;
+      ethertype-fits = lit< tt;
+      address-fits = none-aligned 32 .fits;
+      high-aligned = none-aligned 32 .high-is;
+      low-aligned = none-aligned 32 .low-is;
       stored = refl;
       no-new = λ x. refl;
       no-mac = h .3;
@@ -252,16 +345,25 @@ members-fresh h s vlan e =
 
 -- ---- Groups
 
+-- what any version admits, a device does: no version takes a type of group away (nor a table, which each flow has by its match)
+older-id : (version id : ℕ) → groupIdAllowed version id ≡ true → groupIdAllowed current id ≡ true
+unfolding groupIdAllowed routes
+older-id version id h = by-test (isRouting (groupType id)) (λ p. rw p) (λ p. rw p (simp p at h))
+
 abbrev entryOf : ℕ → Bool → ℕ → List ℕ → GroupEntry
-entryOf id pop count lows = record { id = id; «pop_vlan» = pop; «member_count» = count; members = pad lows }
+entryOf id pop count lows =
+    record { id = id; «pop_vlan» = pop; «member_count» = count; «vlan_id» = 0; «src_mac» = 0; «dst_mac» = 0; members = pad lows }
 
 -- type 0
-single-admits : (ports id : ℕ) (pop : Bool) → id < 2 ^ 32 → groupIdAllowed id ≡ true → groupType id ≡ 0 → groupLow id ≤ ports
+single-admits : (ports id : ℕ) (pop : Bool) → id < 2 ^ 32 → groupIdAllowed current id ≡ true → groupType id ≡ 0 → groupLow id ≤ ports
     → GroupAdmitted ports (entryOf id pop 0 [])
 single-admits ports id pop f a t l =
     record {
       id-fits = f;
       id-allowed = a;
+      vlan-fits = lit< tt;
+      src-fits = lit< tt;
+      dst-fits = lit< tt;
       lows = [];
       members-are = refl;
       count-is = refl;
@@ -269,16 +371,46 @@ single-admits ports id pop f a t l =
       fresh = tt;
       at-most = omega arith;
       single = λ e. (refl, l);
+      routing = λ e. absurd (omega arith);
       many = λ n. absurd (n t);
+      no-routing = λ n. (refl, refl, refl);
     }
 
--- types 3 and 4
-many-admits : (ports id count : ℕ) (lows : List ℕ) → id < 2 ^ 32 → groupIdAllowed id ≡ true → (groupType id ≡ 0 → ⊥) → Grown [] lows
-    → 1 ≤ count → count ≤ maxPorts → length lows ≡ count → GroupAdmitted ports (entryOf id false count lows)
-many-admits ports id count lows f a t g lo hi n =
+-- type 2
+routing-admits : (ports id vlan source target low : ℕ) → id < 2 ^ 32 → groupIdAllowed current id ≡ true → groupType id ≡ 2 → vlan < 2 ^ 16
+    → vlanAllowed vlan ≡ true → source < 2 ^ 48 → target < 2 ^ 48 → low < 2 ^ 16
+    → GroupAdmitted ports
+    (record { id = id; «pop_vlan» = false; «member_count» = 1; «vlan_id» = vlan; «src_mac» = source; «dst_mac» = target; members = pad (low ∷ []) })
+unfolding elem
+routing-admits ports id vlan source target low f a t v w x y l =
     record {
       id-fits = f;
       id-allowed = a;
+      vlan-fits = v;
+      src-fits = x;
+      dst-fits = y;
+      lows = low ∷ [];
+      members-are = refl;
+      count-is = refl;
+      lows-fit = low-cons low [] l (λ j. lit< tt);
+      fresh = (refl, tt);
+      at-most = omega arith;
+      single = λ e. absurd (omega arith);
+      routing = λ e. (refl, w, refl);
+      many = λ m n. absurd (n t);
+      no-routing = λ n. absurd (n t);
+    }
+
+-- types 3 and 4
+many-admits : (ports id count : ℕ) (lows : List ℕ) → id < 2 ^ 32 → groupIdAllowed current id ≡ true → (groupType id ≡ 0 → ⊥) → (groupType id ≡ 2 → ⊥)
+    → Grown [] lows → 1 ≤ count → count ≤ maxPorts → length lows ≡ count → GroupAdmitted ports (entryOf id false count lows)
+many-admits ports id count lows f a t r g lo hi n =
+    record {
+      id-fits = f;
+      id-allowed = a;
+      vlan-fits = lit< tt;
+      src-fits = lit< tt;
+      dst-fits = lit< tt;
       lows = lows;
       members-are = refl;
       count-is = sym n;
@@ -286,36 +418,45 @@ many-admits ports id count lows f a t g lo hi n =
       fresh = rw (g .lows-are) (g .fresh);
       at-most = omega arith;
       single = λ e. absurd (t e);
-      many = λ x. (omega arith, refl);
+      routing = λ e. absurd (r e);
+      many = λ x y. (omega arith, refl);
+      no-routing = λ x. (refl, refl, refl);
     }
 
-group-admits : (terms : Terms) (s : List ℕ) (id : ℕ) → id < 2 ^ 32 → groupAllowed terms s id (membersOf (headerOf terms) s id) ≡ true
+group-admits : (terms : Terms) (s : List ℕ) (id : ℕ) → AreBytes s → id < 2 ^ 32 → groupAllowed terms s id (membersOf (headerOf terms) s id) ≡ true
     → GroupAdmitted (terms .ports) (groupEntry (groupOf (headerOf terms) s id) (pad (membersOf (headerOf terms) s id .lows)))
-unfolding groupEntry groupOf membersOf groupAllowed membersRight
-group-admits terms s id f e =
+unfolding groupEntry groupOf membersOf groupAllowed membersRight lowerFits isRouting ruleOf ruleIn rows
+group-admits terms s id bytes f e =
     let h = headerOf terms in
+    let a = older-id (terms .version) id (and-left (groupIdAllowed (terms .version) id) _ e) in
+    let own = and-right (groupIdAllowed (terms .version) id) _ e in
     by-eq (groupType id) 0
     (λ t p.
-    let x = simp p at e in
-    let a = and-left (groupIdAllowed id) _ x in
+    let x = simp p at own in
     let ranges = eqb (value h s 8) (groupLow id) && leb (value h s 8) (terms .ports) in
-    let b = and-left ranges (leb (value h s 43) 1) (and-right (groupIdAllowed id) _ x) in
+    let b = and-left ranges (leb (value h s 43) 1) x in
     let same = eqb-true (value h s 8) (groupLow id) (and-left _ (leb (value h s 8) (terms .ports)) b) in
     let low = leb-true (value h s 8) (terms .ports) (and-right (eqb (value h s 8) (groupLow id)) _ b) in
     rw p (single-admits (terms .ports) id (eqb (value h s 43) 1) f a t (omega arith)))
-    (λ t p.
-    let x = simp p at e in
+    (λ t p. by-eq (groupType id) 2
+    (λ r q.
+    let v = swap16 (value h s 14) in
+    let lower = value h s 11 in
+    let x = simp (p, q) at own in
+    let vlan = and-left (vlanAllowed v) (eqb (groupType lower) 0) (and-left _ (eqb (groupVlan lower) v) x) in
+    rw (p, q)
+    (routing-admits (terms .ports) id v (value h s 26) (value h s 24) (groupLow lower) f a r (swap-below (value h s 14)) vlan (value-below h s 26 bytes) (value-below h s 24 bytes) (low-below lower)))
+    (λ r q.
+    let x = simp (p, q) at own in
     let c = membersIn h (nestIn s (field h s 13)) (groupVlan id) in
     let n = value h s 12 in
-    let a = and-left (groupIdAllowed id) _ x in
-    let b = and-right (groupIdAllowed id) (c .right && leb 1 n && leb n maxPorts && eqb (length (c .lows)) n) x in
-    let same = eqb-true (length (c .lows)) n (and-right (c .right && leb 1 n && leb n maxPorts) _ b) in
-    let d = and-left (c .right && leb 1 n && leb n maxPorts) (eqb (length (c .lows)) n) b in
+    let same = eqb-true (length (c .lows)) n (and-right (c .right && leb 1 n && leb n maxPorts) _ x) in
+    let d = and-left (c .right && leb 1 n && leb n maxPorts) (eqb (length (c .lows)) n) x in
     let hi = leb-true n maxPorts (and-right (c .right && leb 1 n) _ d) in
     let g = and-left (c .right && leb 1 n) (leb n maxPorts) d in
-    rw p
-    (many-admits (terms .ports) id n (c .lows) f a t (members-fresh h (nestIn s (field h s 13)) (groupVlan id) (and-left (c .right) (leb 1 n) g))
-    (leb-true 1 n (and-right (c .right) (leb 1 n) g)) hi same))
+    rw (p, q)
+    (many-admits (terms .ports) id n (c .lows) f a t r (members-fresh h (nestIn s (field h s 13)) (groupVlan id) (and-left (c .right) (leb 1 n) g))
+    (leb-true 1 n (and-right (c .right) (leb 1 n) g)) hi same)))
 
 -- ---- Payloads
 
@@ -346,12 +487,13 @@ unfolding flowIn carried flowEntry flowOf
 flow-gives terms s make b stores =
     let h = headerOf terms in
     let t = value h s 1 in
+    let fields = fieldsRight h s (flowUser t (ethertypeIn h s)) && pairAlone h s t in
     let allowed = matchAllowed terms (value h s 9) (given h s 19) (matchOf h s t) in
     need-gives terms (given h s 1) Einval _
-    (λ p. need-gives terms (isTable t) Enotsup _
-    (λ q. need-gives terms (fieldsRight h s (flowUser t) && allowed) Einval _
+    (λ p. need-gives terms (isTable (terms .version) t) Enotsup _
+    (λ q. need-gives terms (fields && allowed) Einval _
     (λ r. stores (flowOf h s t) (pad [])
-    (stored-admits terms (flowOf h s t) (given h s 19) (matchOf h s t) (common-fits h s t b) (match-fits h s t b) (and-right (fieldsRight h s (flowUser t)) allowed r)))))
+    (stored-admits terms (flowOf h s t) (given h s 19) (matchOf h s t) (common-fits h s t b) (match-fits h s t b) (and-right fields allowed r)))))
 
 group-gives : (terms : Terms) (s : List ℕ) (make : Group → Command) → AreBytes s
     → ((g : Group) (m : List ℕ) → GroupAdmitted (terms .ports) (groupEntry g m) → Stores terms m (make g)) → Gives terms (groupIn terms s make)
@@ -361,7 +503,7 @@ group-gives terms s make b stores =
     let id = value h s 10 in
     let allowed = groupAllowed terms s id (membersOf h s id) in
     need-gives terms (fieldsRight h s (groupUser id) && allowed) Einval _
-    (λ p. stores (groupOf h s id) (pad (membersOf h s id .lows)) (group-admits terms s id (value-below h s 10 b) (and-right (fieldsRight h s (groupUser id)) allowed p)))
+    (λ p. stores (groupOf h s id) (pad (membersOf h s id .lows)) (group-admits terms s id b (value-below h s 10 b) (and-right (fieldsRight h s (groupUser id)) allowed p)))
 
 flow-key-gives : (terms : Terms) (s : List ℕ) → Gives terms (flowKeyIn terms s)
 unfolding flowKeyIn carried

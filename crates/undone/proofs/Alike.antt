@@ -97,6 +97,10 @@ unfolding sameFlow
 same-flow a b e =
     last-bit _ (a .«has_group») (b .«has_group») e (λ e has-group.
     last-bit _ (a .«has_mac») (b .«has_mac») e (λ e has-mac.
+    last-number _ (a .«address_low») (b .«address_low») e (λ e low.
+    last-number _ (a .«address_high») (b .«address_high») e (λ e high.
+    last-number _ (a .prefix) (b .prefix) e (λ e prefix.
+    last-number _ (a .ethertype) (b .ethertype) e (λ e ethertype.
     last-number _ (a .«new_vlan_id») (b .«new_vlan_id») e (λ e new.
     last-number _ (a .«vlan_id») (b .«vlan_id») e (λ e vlan.
     last-number _ (a .«goto_tbl») (b .«goto_tbl») e (λ e goto.
@@ -109,7 +113,7 @@ same-flow a b e =
     last-number _ (a .priority) (b .priority) e (λ e priority.
     last-number _ (a .«dst_mac») (b .«dst_mac») e (λ e mac.
     let cookie = eqb-true (a .cookie) (b .cookie) e in
-    λ i. record { cookie = cookie i; «dst_mac» = mac i; priority = priority i; hardtime = hardtime i; idletime = idletime i; «in_pport» = port i; «in_pport_mask» = mask i; «group_id» = group i; table = table i; «goto_tbl» = goto i; «vlan_id» = vlan i; «new_vlan_id» = new i; «has_mac» = has-mac i; «has_group» = has-group i })))))))))))))
+    λ i. record { cookie = cookie i; «dst_mac» = mac i; «address_high» = high i; «address_low» = low i; priority = priority i; hardtime = hardtime i; idletime = idletime i; «in_pport» = port i; «in_pport_mask» = mask i; «group_id» = group i; table = table i; «goto_tbl» = goto i; «vlan_id» = vlan i; «new_vlan_id» = new i; ethertype = ethertype i; prefix = prefix i; «has_mac» = has-mac i; «has_group» = has-group i })))))))))))))))))
 
 pub flow-same : (a : FlowEntry) → sameFlow a a ≡ true
 unfolding sameFlow
@@ -119,11 +123,14 @@ pub same-group : (a b : GroupEntry) → sameGroup a b ≡ true → a ≡ b
 unfolding sameGroup
 same-group a b e =
     last-test _ (sameList (a .members) (b .members)) e (λ e lists.
+    last-number _ (a .«dst_mac») (b .«dst_mac») e (λ e target.
+    last-number _ (a .«src_mac») (b .«src_mac») e (λ e source.
+    last-number _ (a .«vlan_id») (b .«vlan_id») e (λ e vlan.
     last-number _ (a .«member_count») (b .«member_count») e (λ e count.
     last-bit _ (a .«pop_vlan») (b .«pop_vlan») e (λ e pop.
     let id = eqb-true (a .id) (b .id) e in
     let members = same-list (a .members) (b .members) lists in
-    λ i. record { id = id i; «pop_vlan» = pop i; «member_count» = count i; members = members i })))
+    λ i. record { id = id i; «pop_vlan» = pop i; «member_count» = count i; «vlan_id» = vlan i; «src_mac» = source i; «dst_mac» = target i; members = members i }))))))
 
 pub group-same : (a : GroupEntry) → sameGroup a a ≡ true
 unfolding sameGroup

@@ -1,27 +1,28 @@
 -- Points of request 2026-06 on the worked example of document 01's "The trail", computed by the rules, of a journal of each version: the list
--- has the same bytes, those of a device. One table, one test, one theorem.
+-- has the same bytes, those of a device. And of a night with request 2026-03's entries. One table, one test, one theorem.
 -- Assumes nothing.
 use Prim.Native.Nat.{ℕ, _+_}
 use mathlib.Core.Path.{_≡_, refl}
-use mathlib.Core.Bool.{Bool, true, false, _&&_}
+use mathlib.Core.Bool.{true}
 use mathlib.Core.List.{List, [], _∷_, _++_}
-use lib.Dec.{eqb}
-use lib.ListN.{replicate}
+use lib.ListN.{length, replicate}
 use Rattle.rules.specs.Answers.{code}
-use Rattle.rules.specs.Bytes.{le, leAt, bytesOf, swap16, part, inside, splice, bit}
+use Rattle.rules.specs.Bytes.{le, leAt, bytesOf, swap16, swapped, part, inside, splice, bit}
 use Rattle.rules.specs.Registers.{portCountAllowed}
-use Rattle.rules.specs.Version.{known, headerCounted, headerBytes}
+use Rattle.rules.specs.Version.{known, headerCounted, headerBytes, routes}
 use Rattle.rules.specs.Region.{valueSize, lengthField, filled, tlvAt, tlvEnd, isTlv, stepAt, walk, tlvs, endOf, wellFormed, fitsWidth, meet, scan, lookup}
-use Rattle.rules.specs.Fields.{rows, memberWidth, ruleIn, ruleOf, field, isAt, numberIn, nestIn, given, value, right, hasUser, fieldRight, everyBelow, fieldsRight}
-use Rattle.rules.specs.GroupId.{groupType, groupVlan, groupLow, vlanAllowed, hasMembers, groupIdAllowed, memberId}
+use Rattle.rules.specs.Address.{prefixMask, lengthFrom, prefixLength, isIpv6, isRoutedType, addressBytes, addressBits, alignedHigh, alignedLow, addressIn, isUnicast}
+use Rattle.rules.specs.Fields.{rows, memberWidth, ruleIn, ruleOf, field, isAt, isAbsent, numberIn, nestIn, given, value, right, hasUser, fieldRight, everyBelow, fieldsRight}
+use Rattle.rules.specs.GroupId.{groupType, groupVlan, groupLow, vlanAllowed, hasMembers, isRouting, groupIdAllowed, memberId}
 use Rattle.rules.specs.Members.{elem, memberRight, collect, membersIn, membersRight, pad}
-use Rattle.rules.specs.Decode.{refused, carried, need, matchOf, flowOf, groupFits, newVlanFits, matchAllowed, flowUser, isTable, flowIn, flowKeyIn, groupOf, membersOf, groupAllowed, groupUser, groupIn, groupKeyIn, isCommand, commandIn, commandType, commandInfo, decode}
+use Rattle.rules.specs.Decode.{refused, carried, need, ethertypeIn, addressField, maskField, otherAbsent, addressOf, routeOf, matchOf, flowOf, groupFits, newVlanFits, matchAllowed, flowUser, isTable, pairAlone, flowIn, flowKeyIn, groupOf, membersOf, lowerFits, groupAllowed, groupUser, groupIn, groupKeyIn, isCommand, commandIn, commandType, commandInfo, decode}
 use Rattle.rules.specs.Keyed.{position, holds, find, insert, replace, remove}
 use Rattle.rules.specs.Tables.{storedFlow, flowEntry, groupEntry, emptyTables, addStatus, heldStatus, commandStatus, withFlows, withGroups, commandEffect, decodedStatus, decodedEffect, executed, carryOut, execute}
 use Rattle.rules.specs.Journal.{completion, header, recordOf, begin, ready, stopped, headerRefusal, termsIn, opened, headerRead, isUnread, recordAgrees, tablesAfter, counted, recordRead, whole, feed, feeds, endsIn, finished, finish, replay, digits, decimal, item, line, report}
 use Rattle.rules.specs.Encode.{tlvOf, regionOf, payloadOf, fieldsFrom, fieldsOf, numberBytes, flowHas, flowValue, flowBytes, flowFields, memberFields, groupValue, groupBytes, groupFields}
 use Rattle.rules.specs.Undo.{recordSize, recordsSize, firstRecords, tablesIn, tablesThen, sameBit, sameList, sameFlow, sameGroup, picked, flowPayload, groupPayload, flowRun, groupRun, payloads, listed, refusedUndo, writtenUndo, fitted, undoFrom, undo, undoReport}
 use Rattle.rules.specs.declared.Status.the-variants.{Ok}
+use Rattle.rules.proofs.PointTable.{Point, point, all}
 
 -- ---- What the points are computed from
 
@@ -66,6 +67,66 @@ one version h = 0x52 ∷ 0x4B ∷ 0x54 ∷ version ∷ 0x00 ∷ 0x04 ∷ recordO
 two : ℕ → ℕ → List ℕ
 two version h = one version h ++ recordOf Ok (deleting h) 1
 
+-- ---- Request 2026-03's entries
+
+-- a TLV of the device's version, with its fill
+valued : ℕ → List ℕ → List ℕ → List ℕ
+valued kind value fill = kind ∷ 0x00 ∷ 0x00 ∷ 0x00 ∷ (8 + length value) ∷ 0x00 ∷ 0x00 ∷ 0x00 ∷ value ++ fill
+
+cookie : ℕ → List ℕ
+cookie c = valued 5 (c ∷ 0x00 ∷ 0x00 ∷ 0x00 ∷ 0x00 ∷ 0x00 ∷ 0x00 ∷ 0x00 ∷ []) []
+
+-- a flow add of table 30, in rising type, before the address: to group 0x20000001, priority 1, IDLETIME 9
+route : ℕ → ℕ → ℕ → ℕ → List ℕ
+route c size first second =
+    top 8 3 size
+    ++ (valued 1 (30 ∷ 0x00 ∷ []) (replicate 6 0)
+    ++ (valued 2 (0x01 ∷ 0x00 ∷ 0x00 ∷ 0x00 ∷ []) (replicate 4 0)
+    ++ (valued 3 (replicate 4 0) (replicate 4 0)
+    ++ (valued 4 (0x09 ∷ 0x00 ∷ 0x00 ∷ 0x00 ∷ []) (replicate 4 0)
+    ++ (cookie c
+    ++ (valued 9 (60 ∷ 0x00 ∷ []) (replicate 6 0)
+    ++ (valued 10 (0x01 ∷ 0x00 ∷ 0x00 ∷ 0x20 ∷ []) (replicate 4 0)
+    ++ valued 23 (first ∷ second ∷ []) (replicate 6 0))))))))
+
+-- 10.1.2.3 with a mask of 20 ones: the address "as given"
+route4 : List ℕ
+route4 =
+    route 1 160 0x08 0x00
+    ++ (valued 36 (10 ∷ 1 ∷ 2 ∷ 3 ∷ []) (replicate 4 0)
+    ++ valued 37 (0xFF ∷ 0xFF ∷ 0xF0 ∷ 0x00 ∷ []) (replicate 4 0))
+
+-- fd00::7 with a mask of 65 ones
+route6 : List ℕ
+route6 =
+    route 2 176 0x86 0xDD
+    ++ (valued 38 (0xFD ∷ replicate 14 0 ++ (0x07 ∷ [])) []
+    ++ valued 39 (replicate 8 0xFF ++ (0x80 ∷ replicate 7 0)) [])
+
+-- a group add of type 2: to port 2 in VLAN 5
+routing : List ℕ
+routing =
+    top 8 7 80
+    ++ (valued 10 (0x01 ∷ 0x00 ∷ 0x00 ∷ 0x20 ∷ []) (replicate 4 0)
+    ++ (valued 11 (0x02 ∷ 0x00 ∷ 0x05 ∷ 0x00 ∷ []) (replicate 4 0)
+    ++ (valued 14 (0x00 ∷ 0x05 ∷ []) (replicate 6 0)
+    ++ (valued 24 (1 ∷ 2 ∷ 3 ∷ 4 ∷ 5 ∷ 6 ∷ []) (replicate 2 0)
+    ++ valued 26 (7 ∷ 8 ∷ 9 ∷ 10 ∷ 11 ∷ 12 ∷ []) (replicate 2 0)))))
+
+-- their dels
+removed : ℕ → List ℕ
+removed c = top 8 5 0x10 ++ cookie c
+
+unrouting : List ℕ
+unrouting = top 8 9 0x10 ++ valued 10 (0x01 ∷ 0x00 ∷ 0x00 ∷ 0x20 ∷ []) (replicate 4 0)
+
+-- a night that adds the three, and one that deletes them again
+night : ℕ → List ℕ
+night version = 0x52 ∷ 0x4B ∷ 0x54 ∷ version ∷ 0x00 ∷ 0x04 ∷ recordOf Ok routing 0 ++ (recordOf Ok route6 1 ++ recordOf Ok route4 2)
+
+evening : List ℕ
+evening = night 3 ++ (recordOf Ok (removed 1) 3 ++ (recordOf Ok (removed 2) 4 ++ recordOf Ok unrouting 5))
+
 -- answer, line, payloads, bytes, and the room, which had 7 in every byte
 asked : List ℕ → ℕ → ℕ → List ℕ
 asked journal n room =
@@ -73,13 +134,6 @@ asked journal n room =
     u .answer ∷ u .at ∷ u .count ∷ u .size ∷ u .room
 
 -- ---- The table
-
-record Point : Type 0 where
-  seen : List ℕ
-  expected : List ℕ
-
-point : List ℕ → List ℕ → Point
-point seen expected = record { seen = seen; expected = expected }
 
 -- asked of journals of a version; the list is the device's
 undoing : ℕ → ℕ → List Point
@@ -103,25 +157,20 @@ undoing version h =
 
 points : List Point
 points =
-    undoing 2 8
+    undoing 3 8
+    ++ (undoing 2 8
     ++ (undoing 1 0
     -- the lengths of one version under the number of the other, and numbers of none
     ++ (point (asked (one 2 0) 0 1) (14 ∷ 1 ∷ 0 ∷ 0 ∷ 7 ∷ [])
     ∷ point (asked (one 1 8) 0 1) (14 ∷ 1 ∷ 0 ∷ 0 ∷ 7 ∷ [])
     ∷ point (asked (one 0 0) 0 1) (12 ∷ 0 ∷ 0 ∷ 0 ∷ 7 ∷ [])
-    ∷ point (asked (one 3 8) 0 1) (12 ∷ 0 ∷ 0 ∷ 0 ∷ 7 ∷ [])
-    ∷ []))
-
-same : List ℕ → List ℕ → Bool
-same [] [] = true
-same [] (b ∷ ys) = false
-same (a ∷ xs) [] = false
-same (a ∷ xs) (b ∷ ys) = eqb a b && same xs ys
-
-all : List Point → Bool
-all [] = true
-all (p ∷ ps) = same (p .seen) (p .expected) && all ps
+    ∷ point (asked (one 4 8) 0 1) (12 ∷ 0 ∷ 0 ∷ 0 ∷ 7 ∷ [])
+    -- flows by cookie and then the group; older versions have none of these
+    ∷ point (asked (night 3) 0 127) (0 ∷ 0 ∷ 3 ∷ 126 ∷ 40 ∷ 0 ∷ removed 1 ++ (40 ∷ 0 ∷ removed 2 ++ (40 ∷ 0 ∷ unrouting ++ (7 ∷ []))))
+    ∷ point (asked evening 3 494) (0 ∷ 0 ∷ 3 ∷ 494 ∷ 184 ∷ 0 ∷ route4 ++ (200 ∷ 0 ∷ route6 ++ (104 ∷ 0 ∷ routing)))
+    ∷ point (asked (night 2) 0 1) (14 ∷ 1 ∷ 0 ∷ 0 ∷ 7 ∷ [])
+    ∷ [])))
 
 points-hold : all points ≡ true
-unfolding points undoing point all same asked top tlv outPport groupId popVlan adding deleting addingAgain one two code le leAt bytesOf swap16 part inside splice bit known headerCounted headerBytes valueSize filled tlvAt tlvEnd isTlv stepAt walk tlvs endOf wellFormed fitsWidth meet scan lookup rows memberWidth ruleIn ruleOf field isAt numberIn nestIn given value right hasUser fieldRight everyBelow fieldsRight groupType groupVlan groupLow vlanAllowed hasMembers groupIdAllowed memberId elem memberRight collect membersIn membersRight pad refused carried need matchOf flowOf groupFits newVlanFits matchAllowed flowUser isTable flowIn flowKeyIn groupOf membersOf groupAllowed groupUser groupIn groupKeyIn isCommand commandIn commandType commandInfo decode position holds find insert replace remove storedFlow flowEntry groupEntry emptyTables addStatus heldStatus commandStatus withFlows withGroups commandEffect decodedStatus decodedEffect executed carryOut execute completion header recordOf begin ready stopped headerRefusal termsIn opened headerRead isUnread recordAgrees tablesAfter counted recordRead whole feed feeds endsIn finished finish replay portCountAllowed digits decimal item line report lengthField tlvOf regionOf payloadOf fieldsFrom fieldsOf numberBytes flowHas flowValue flowBytes flowFields memberFields groupValue groupBytes groupFields recordSize recordsSize firstRecords tablesIn tablesThen sameBit sameList sameFlow sameGroup picked flowPayload groupPayload flowRun groupRun payloads listed refusedUndo writtenUndo fitted undoFrom undo undoReport
+unfolding points undoing asked top tlv outPport groupId popVlan adding deleting addingAgain one two valued cookie route route4 route6 routing removed unrouting night evening code le leAt bytesOf swap16 swapped part inside splice bit known headerCounted headerBytes routes prefixMask lengthFrom prefixLength isIpv6 isRoutedType addressBytes addressBits alignedHigh alignedLow addressIn isUnicast valueSize filled tlvAt tlvEnd isTlv stepAt walk tlvs endOf wellFormed fitsWidth meet scan lookup rows memberWidth ruleIn ruleOf field isAt isAbsent numberIn nestIn given value right hasUser fieldRight everyBelow fieldsRight groupType groupVlan groupLow vlanAllowed hasMembers isRouting groupIdAllowed memberId elem memberRight collect membersIn membersRight pad refused carried need ethertypeIn addressField maskField otherAbsent addressOf routeOf matchOf flowOf groupFits newVlanFits matchAllowed flowUser isTable pairAlone flowIn flowKeyIn groupOf membersOf lowerFits groupAllowed groupUser groupIn groupKeyIn isCommand commandIn commandType commandInfo decode position holds find insert replace remove storedFlow flowEntry groupEntry emptyTables addStatus heldStatus commandStatus withFlows withGroups commandEffect decodedStatus decodedEffect executed carryOut execute completion header recordOf begin ready stopped headerRefusal termsIn opened headerRead isUnread recordAgrees tablesAfter counted recordRead whole feed feeds endsIn finished finish replay portCountAllowed digits decimal item line report lengthField tlvOf regionOf payloadOf fieldsFrom fieldsOf numberBytes flowHas flowValue flowBytes flowFields memberFields groupValue groupBytes groupFields recordSize recordsSize firstRecords tablesIn tablesThen sameBit sameList sameFlow sameGroup picked flowPayload groupPayload flowRun groupRun payloads listed refusedUndo writtenUndo fitted undoFrom undo undoReport
 points-hold = refl

@@ -1,6 +1,6 @@
-use mathlib.Core.Path.{_∙_}
-use borrow.Author.Tests.{ne-eqb}
+use native.Mathlib.Omega.{arith}
 use Rattle.rules.specs.Encode.{flowValue}
+use Rattle.encoding.proofs.FieldLists.{no-number}
 use borrow.Author.Needs.{needs}
 use Rattle.encoding.proofs.flow_value.Statement.{statement}
 use Rattle.encoding.proofs.flow_value.Tie as tie
@@ -41,35 +41,25 @@ returns-9 : tie.Need-returns-9
 unfolding flowValue
 returns-9 c = rw (c .before .if9 .taken)
 
+-- no other type of those has a number
 returns-10 : tie.Need-returns-10
-unfolding flowValue
-returns-10 c = c .swapped .ensures ∙ rw (c .before .if10 .taken)
+returns-10 c =
+    let else₉ = c .before in
+    let else₈ = else₉ .before in
+    let else₇ = else₈ .before in
+    let else₆ = else₇ .before in
+    let else₅ = else₆ .before in
+    let else₄ = else₅ .before in
+    let else₃ = else₄ .before in
+    let else₂ = else₃ .before in
+    let else₁ = else₂ .before in
+    no-number _ _ (c .if10 .taken) (else₁ .if1 .left) (else₂ .if2 .left) (else₃ .if3 .left) (else₄ .if4 .left) (else₅ .if5 .left) (else₆ .if6 .left) (else₇ .if7 .left) (else₈ .if8 .left)
 
-returns-11 : tie.Need-returns-11
-unfolding flowValue
-returns-11 c = c .swapped2 .ensures ∙ rw (c .before .if11 .taken)
-
-returns-12 : tie.Need-returns-12
-unfolding flowValue
-returns-12 c = rw (c .if12 .taken)
-
--- no field has another type
-returns-13 : tie.Need-returns-13
-unfolding flowValue
-returns-13 c =
-    let c₁₁ = c .before in
-    let c₁₀ = c₁₁ .before in
-    let c₉ = c₁₀ .before in
-    let c₈ = c₉ .before in
-    let c₇ = c₈ .before in
-    let c₆ = c₇ .before in
-    let c₅ = c₆ .before in
-    let c₄ = c₅ .before in
-    let c₃ = c₄ .before in
-    let c₂ = c₃ .before in
-    let c₁ = c₂ .before in
-    simp
-    (ne-eqb _ _ (c₁ .if1 .left), ne-eqb _ _ (c₂ .if2 .left), ne-eqb _ _ (c₃ .if3 .left), ne-eqb _ _ (c₄ .if4 .left), ne-eqb _ _ (c₅ .if5 .left), ne-eqb _ _ (c₆ .if6 .left), ne-eqb _ _ (c₇ .if7 .left), ne-eqb _ _ (c₈ .if8 .left), ne-eqb _ _ (c₉ .if9 .left), ne-eqb _ _ (c₁₀ .if10 .left), ne-eqb _ _ (c₁₁ .if11 .left), ne-eqb _ _ (c .if12 .left))
+header-value-requires : tie.Need-header-value-requires
+header-value-requires c κs =
+    let else₉ = c .before in
+    let start = else₉ .before .before .before .before .before .before .before .before .before in
+    (omega (arith, c .if10 .left, else₉ .if9 .left), start .pre)
 
 pub flow-value-spec : {M : Type 1} → statement M
 flow-value-spec =
@@ -92,9 +82,6 @@ flow-value-spec =
     returns-8
     (λ c. search needs)
     returns-9
-    (λ c κs. search needs)
     returns-10
-    (λ c κs. search needs)
-    returns-11
-    returns-12
-    returns-13)
+    header-value-requires
+    (λ c. search needs))

@@ -1,11 +1,11 @@
 use Rattle.rules.specs.Encode.{numberBytes}
-use Rattle.rules.proofs.FieldTable.{narrow}
+use Rattle.encoding.proofs.FieldLists.{plain}
 use borrow.Author.Needs.{needs}
 use Rattle.encoding.proofs.put_field.Statement.{statement}
 use Rattle.encoding.proofs.put_field.Tie as tie
 
 put-number-requires : tie.Need-put-number-requires
-put-number-requires c κs = (search needs, rw (c .before .rule-of .ensures) (narrow _))
+put-number-requires c κs = (search needs, rw (c .before .rule-of .ensures) (plain _ (c .before .before .before .pre .1)))
 
 returns : tie.Need-returns
 unfolding numberBytes

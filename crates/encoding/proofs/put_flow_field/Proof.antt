@@ -6,12 +6,10 @@ use Rattle.encoding.proofs.put_flow_field.Tie as tie
 returns : tie.Need-returns
 returns c =
     let put = c .before .before in
-    let value = put .before in
-    let then = value .before .before in
+    let then = put .before .before in
     let has = then .before in
     let uses = has .before in
-    field-put _ _ _ _ (rw (uses .before .rule-of .ensures) at (uses .has-user .ensures)) (has .flow-has .ensures) (value .flow-value .ensures) (then .if1 .taken)
-    (put .put-field .ensures)
+    field-put _ _ _ (rw (uses .before .rule-of .ensures) at (uses .has-user .ensures)) (has .flow-has .ensures) (then .if1 .taken) (put .put-flow-value .ensures)
 
 returns-2 : tie.Need-returns-2
 returns-2 c =
@@ -23,7 +21,6 @@ pub put-flow-field-spec : {M : Type 1} → statement M
 put-flow-field-spec =
     tie.close
     (tie.spec
-    (λ c κs. search needs)
     (λ c κs. search needs)
     (λ c κs. search needs)
     (λ c κs. search needs)
