@@ -20,11 +20,12 @@
 #include <stddef.h>
 #include <stdint.h>
 
-/* How many flows and groups a device has places for, how many numbers the list of a frame must have room for, and the stack that a call
- * may need, in bytes. */
+/* How many flows and groups a device has places for, how many numbers an output has and the list of a frame must have room for, and the
+ * stack that a call may need, in bytes. */
 #define ROCKER_FLOWS 256
 #define ROCKER_GROUPS 128
-#define ROCKER_LIST 186
+#define ROCKER_OUTPUT 9
+#define ROCKER_LIST 558
 #define ROCKER_STACK 16384
 
 /* A device. All zero it has no ports: rocker_fresh makes it one that has. A host has no need to look inside. */
@@ -32,8 +33,8 @@ struct rocker {
     /* switch ID, links, enable, TEST_REG64, BASE_ADDR; ports, three latches and TEST_REG, SIZE, HEAD, TAIL, CREDITS of 32 bits; how many
      * flows and how many groups are live */
     uint64_t registers[16];
-    uint32_t flows[ROCKER_FLOWS][16];
-    uint32_t heads[ROCKER_GROUPS][3]; /* of groups: ID, POP_VLAN, number of members */
+    uint32_t flows[ROCKER_FLOWS][22];
+    uint32_t heads[ROCKER_GROUPS][8]; /* of groups: ID, POP_VLAN, number of members, VLAN, two MACs of two words each */
     uint16_t members[ROCKER_GROUPS][62];
 };
 
@@ -43,10 +44,20 @@ struct rocker_outcome {
     uint64_t raised;    /* 1 if vector 0 was raised */
     uint64_t completed; /* COMP_ERR as process wrote it into the descriptor */
     uint64_t bytes;     /* bytes written to the start of the buffer */
-    uint64_t outputs;   /* outputs written to the start of the list: port, VLAN and POP_VLAN of each */
+    uint64_t outputs;   /* outputs written to the start of the list, ROCKER_OUTPUT numbers each */
 };
 
-_Static_assert(sizeof(struct rocker) == 33920, "a device has 33,920 bytes");
+_Static_assert(sizeof(struct rocker) == 42624, "a device has 42,624 bytes");
+
+/* Where the numbers of an output begin. A routed frame leaves with these MACs; both are 0 where it is bridged and keeps its own.
+ * docs/C-INTERFACE.md, "Outputs", has what an output asks of the host. */
+enum rocker_output {
+    ROCKER_PORT = 0,     /* 0 is the host */
+    ROCKER_VLAN = 1,
+    ROCKER_POP_VLAN = 2, /* 1: it leaves without a tag */
+    ROCKER_SOURCE = 3,   /* of a MAC three numbers, two bytes each, the first one high */
+    ROCKER_DESTINATION = 6
+};
 
 /* The kinds of a call, with the numbers that each takes. The others of its three numbers are not looked at. */
 enum rocker_kind {
@@ -63,7 +74,7 @@ enum rocker_kind {
 /* The size of a device in the archive. A host compares it once with sizeof(struct rocker), so that header and archive agree. */
 uint64_t rocker_size(void);
 
-uint32_t rocker_fresh_parts(uint64_t registers[16], uint32_t flows[ROCKER_FLOWS][16], uint32_t heads[ROCKER_GROUPS][3],
+uint32_t rocker_fresh_parts(uint64_t registers[16], uint32_t flows[ROCKER_FLOWS][22], uint32_t heads[ROCKER_GROUPS][8],
                             uint16_t members[ROCKER_GROUPS][62], uint64_t ports, uint64_t switch_id);
 
 uint32_t rocker_read_parts(const uint64_t registers[16], uint64_t offset, uint64_t width, uint64_t *value);
@@ -72,18 +83,18 @@ uint32_t rocker_write_parts(uint64_t registers[16], uint64_t offset, uint64_t wi
 
 uint32_t rocker_link_parts(uint64_t registers[16], uint64_t port, uint64_t up);
 
-uint32_t rocker_process_parts(uint64_t registers[16], uint32_t flows[ROCKER_FLOWS][16], uint32_t heads[ROCKER_GROUPS][3],
+uint32_t rocker_process_parts(uint64_t registers[16], uint32_t flows[ROCKER_FLOWS][22], uint32_t heads[ROCKER_GROUPS][8],
                               uint16_t members[ROCKER_GROUPS][62], uint8_t *memory, size_t memory_length, uint8_t *buffer,
                               size_t buffer_length, uint64_t *raised, uint64_t *completed, uint64_t *bytes);
 
-uint32_t rocker_frame_parts(const uint64_t registers[16], const uint32_t flows[ROCKER_FLOWS][16], const uint32_t heads[ROCKER_GROUPS][3],
+uint32_t rocker_frame_parts(const uint64_t registers[16], const uint32_t flows[ROCKER_FLOWS][22], const uint32_t heads[ROCKER_GROUPS][8],
                             const uint16_t members[ROCKER_GROUPS][62], uint64_t port, const uint8_t *frame, size_t frame_length,
                             uint16_t *list, size_t list_length, uint64_t *outputs);
 
 uint32_t rocker_header_parts(const uint64_t registers[16], uint8_t *buffer, size_t buffer_length, uint64_t *bytes);
 
 /* out: value, raised, completed, bytes, outputs */
-uint32_t rocker_call_parts(uint64_t registers[16], uint32_t flows[ROCKER_FLOWS][16], uint32_t heads[ROCKER_GROUPS][3],
+uint32_t rocker_call_parts(uint64_t registers[16], uint32_t flows[ROCKER_FLOWS][22], uint32_t heads[ROCKER_GROUPS][8],
                            uint16_t members[ROCKER_GROUPS][62], uint64_t kind, uint64_t a, uint64_t b, uint64_t c, uint8_t *memory,
                            size_t memory_length, const uint8_t *frame, size_t frame_length, uint8_t *buffer, size_t buffer_length,
                            uint16_t *list, size_t list_length, uint64_t out[5]);
@@ -126,11 +137,18 @@ static inline uint32_t rocker_process(struct rocker *d, uint8_t *memory, size_t 
 }
 
 /* A frame in at a port. Its outputs go to the start of the list, which has room for ROCKER_LIST numbers, and how many they are to *outputs,
- * 0 if it is refused. */
+ * 0 if it is refused. The frame is only read: tag, MACs and all else are the host's to change. */
 static inline uint32_t rocker_frame(const struct rocker *d, uint64_t port, const uint8_t *frame, size_t frame_length, uint16_t *list,
                                     size_t list_length, uint64_t *outputs)
 {
     return rocker_frame_parts(d->registers, d->flows, d->heads, d->members, port, frame, frame_length, list, list_length, outputs);
+}
+
+/* The six bytes of a MAC from its three numbers in an output: rocker_mac(list + ROCKER_OUTPUT * k + ROCKER_SOURCE, mac). */
+static inline void rocker_mac(const uint16_t numbers[3], uint8_t mac[6])
+{
+    for (unsigned i = 0; i < 6; i++)
+        mac[i] = (uint8_t)(numbers[i / 2] >> (i % 2 ? 0 : 8));
 }
 
 /* The journal's header, to the start of the buffer. Of the outcome, all but bytes is 0. */

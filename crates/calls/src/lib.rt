@@ -8,6 +8,7 @@ use rules::FlowRows;
 use rules::GroupHeads;
 use rules::GroupMembers;
 use rules::LIST_NUMBERS;
+use rules::OUTPUT_NUMBERS;
 use text::Numeral;
 
 // link PORT UP
@@ -134,7 +135,7 @@ fn header(d: Device, s: &[u8], line: u64, buffer: &mut [u8]) -> Device {
     headed(d, &mut buffer[0..n])
 }
 
-// A frame's list: 186 numbers, or LISTLEN.
+// A frame's list: as many numbers as it may need, or LISTLEN.
 fn list_length(s: &[u8], line: u64) -> Counted {
     if text::count(s) == 3 {
         return Counted::Bytes(LIST_NUMBERS);
@@ -147,14 +148,14 @@ fn list_length(s: &[u8], line: u64) -> Counted {
         print::complain(line, b"not a number of 64 bits");
         return Counted::Malformed;
     };
-    if 512 < n {
-        print::complain(line, b"LISTLEN is at most 512");
+    if 1024 < n {
+        print::complain(line, b"LISTLEN is at most 1024");
         return Counted::Malformed;
     }
     Counted::Bytes(n as usize)
 }
 
-// Three numbers to an output.
+// Nine numbers to an output.
 fn forward(
     d: Device,
     port: u64,
@@ -169,8 +170,8 @@ fn forward(
     let n = r.outputs;
     print::answer(answers::number(answer));
     print::value(n as u64);
-    if n <= 170 {
-        print::numbers(list, 3 * n);
+    if n <= 113 {
+        print::numbers(list, OUTPUT_NUMBERS * n);
     }
     print::end();
 }

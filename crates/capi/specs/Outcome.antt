@@ -62,6 +62,6 @@ pub record FreshOutcome (answer : ℕ) (w w′ : List ℕ) (a a′ : Arrays) (po
 unfoldable pub partsSize : ℕ
 partsSize =
     size (tyArray (tyInt w64) 16)
-    + size (tyArray (tyArray (tyInt w32) 16) maxFlows)
-    + size (tyArray (tyArray (tyInt w32) 3) maxGroups)
+    + size (tyArray (tyArray (tyInt w32) 22) maxFlows)
+    + size (tyArray (tyArray (tyInt w32) 8) maxGroups)
     + size (tyArray (tyArray (tyInt w16) maxPorts) maxGroups)

@@ -52,7 +52,7 @@ fn store(registers: &mut [u64; 16], answer: Answer, after: Device) -> u32
 pub extern "C" fn rocker_size() -> u64
     ensures { λ r. ⌜ r ≡ partsSize ⌝ }
 {
-    33920
+    42624
 }
 
 #[no_mangle]

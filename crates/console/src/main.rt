@@ -17,7 +17,9 @@ fn help() {
     say(b"read WIDTH OFFSET           prints ANSWER VALUE");
     say(b"write WIDTH OFFSET VALUE    prints ANSWER RAISED");
     say(b"work ROOM                   prints ANSWER RAISED RECORD");
-    say(b"frame PORT HEX [LISTLEN]    prints ANSWER N, and PORT VLAN POP for each output");
+    say(
+        b"frame PORT HEX [LISTLEN]    prints ANSWER N, and PORT VLAN POP and two MACs in three numbers each for each output",
+    );
     say(b"header ROOM                 prints ANSWER HEADER");
     say(b"");
     say(

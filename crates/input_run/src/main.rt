@@ -7,9 +7,11 @@ use input::reading;
 use libc::STDOUT_FILENO;
 use replaying::replay;
 use replaying::replay::Replayed;
+use rules::FLOW_WORDS;
 use rules::FlowRows;
 use rules::GroupHeads;
 use rules::GroupMembers;
+use rules::HEAD_WORDS;
 use rules::MAX_FLOWS;
 use rules::MAX_GROUPS;
 use rules::MAX_MEMBERS;
@@ -23,8 +25,8 @@ fn say(text: &[u8]) -> bool {
 
 // Whether the file gives the same text through a buffer that holds one record.
 fn agrees_in_one_record(path: &[u8], whole: &[u8]) -> bool {
-    let mut flows = [[0u32; 16]; MAX_FLOWS];
-    let mut heads = [[0u32; 3]; MAX_GROUPS];
+    let mut flows = [[0u32; FLOW_WORDS]; MAX_FLOWS];
+    let mut heads = [[0u32; HEAD_WORDS]; MAX_GROUPS];
     let mut members = [[0u16; MAX_MEMBERS]; MAX_GROUPS];
     let mut buffer = [0u8; replay::LONGEST];
     let fd = files::open(path);
@@ -96,8 +98,8 @@ fn agrees_in_pieces(path: &[u8], piece: &mut [u8], whole: &[u8]) -> bool {
     let from = os::open_read(path);
     let to = os::create_temp(&mut name);
     let fd = os::open_read(&name);
-    let mut flows = [[0u32; 16]; MAX_FLOWS];
-    let mut heads = [[0u32; 3]; MAX_GROUPS];
+    let mut flows = [[0u32; FLOW_WORDS]; MAX_FLOWS];
+    let mut heads = [[0u32; HEAD_WORDS]; MAX_GROUPS];
     let mut members = [[0u16; MAX_MEMBERS]; MAX_GROUPS];
     let mut buffer = io::large_buffer();
     let q = grown(
@@ -134,8 +136,8 @@ fn compare(path: &[u8], whole: &[u8]) {
 }
 
 fn print(path: &[u8]) {
-    let mut flows = [[0u32; 16]; MAX_FLOWS];
-    let mut heads = [[0u32; 3]; MAX_GROUPS];
+    let mut flows = [[0u32; FLOW_WORDS]; MAX_FLOWS];
+    let mut heads = [[0u32; HEAD_WORDS]; MAX_GROUPS];
     let mut members = [[0u16; MAX_MEMBERS]; MAX_GROUPS];
     let d = reading::replay_file(b"input_run", path, &mut flows, &mut heads, &mut members);
     say(path);

@@ -2,7 +2,9 @@
 use journal::put_bytes;
 use replaying::reader::Progress;
 use replaying::replay::Replayed;
+use rules::FlowRow;
 use rules::FlowRows;
+use rules::GroupHead;
 use rules::GroupHeads;
 use rules::GroupMembers;
 use rules::MAX_MEMBERS;
@@ -74,13 +76,13 @@ fn put_line(out: &mut [u8], at: usize, word: &[u8], n: u64) -> usize
 }
 
 // How many places are live: a count beyond the places there are counts as all of them.
-fn live_flows(count: usize, flows: &[[u32; 16]]) -> u64
+fn live_flows(count: usize, flows: &[FlowRow]) -> u64
     ensures { λ r. ⌜ r ≡ length (liveFlows count (now (flows .entry))) ⌝ }
 {
     numbers::min(count, flows.len()) as u64
 }
 
-fn live_groups(count: usize, heads: &[[u32; 3]], members: &[[u16; MAX_MEMBERS]]) -> u64
+fn live_groups(count: usize, heads: &[GroupHead], members: &[[u16; MAX_MEMBERS]]) -> u64
     ensures { λ r. ⌜ r ≡ length (liveGroups count (now (heads .entry)) (now (members .entry))) ⌝ }
 {
     numbers::min(count, numbers::min(heads.len(), members.len())) as u64

@@ -4,9 +4,11 @@
 use lines::Reader;
 use lines::print;
 use rules::Device;
+use rules::FLOW_WORDS;
 use rules::FlowRows;
 use rules::GroupHeads;
 use rules::GroupMembers;
+use rules::HEAD_WORDS;
 use rules::MAX_FLOWS;
 use rules::MAX_GROUPS;
 use rules::MAX_MEMBERS;
@@ -150,7 +152,7 @@ fn turn(
     line: &mut [u8; 65535],
     memory: &mut [u8; 1048576],
     buffer: &mut [u8; 65536],
-    list: &mut [u16; 512],
+    list: &mut [u16; 1024],
     flows: &mut FlowRows,
     heads: &mut GroupHeads,
     members: &mut GroupMembers,
@@ -184,15 +186,15 @@ fn begin(flows: &mut FlowRows, heads: &mut GroupHeads, members: &mut GroupMember
 // Runs the script on standard input to its end. A proved loop ends, and nothing says that the input does: the turns count down from
 // a number that no run uses up.
 pub fn run() {
-    let mut flows = [[0u32; 16]; MAX_FLOWS];
-    let mut heads = [[0u32; 3]; MAX_GROUPS];
+    let mut flows = [[0u32; FLOW_WORDS]; MAX_FLOWS];
+    let mut heads = [[0u32; HEAD_WORDS]; MAX_GROUPS];
     let mut members = [[0u16; MAX_MEMBERS]; MAX_GROUPS];
     let mut t = begin(&mut flows, &mut heads, &mut members);
     let mut input = [0u8; 65536];
     let mut line = [0u8; 65535];
     let mut memory = [0u8; 1048576];
     let mut buffer = [0u8; 65536];
-    let mut list = [0u16; 512];
+    let mut list = [0u16; 1024];
     let mut turns = u64::MAX;
     while turns > 0 && t.more {
         t = turn(

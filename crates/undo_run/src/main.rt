@@ -4,9 +4,11 @@ use earlier::reading;
 use libc::STDIN_FILENO;
 use libc::STDOUT_FILENO;
 use lines::print;
+use rules::FLOW_WORDS;
 use rules::FlowRows;
 use rules::GroupHeads;
 use rules::GroupMembers;
+use rules::HEAD_WORDS;
 use rules::MAX_FLOWS;
 use rules::MAX_GROUPS;
 use rules::MAX_MEMBERS;
@@ -100,11 +102,11 @@ fn same_numbers(u: Undone, v: Undone) -> bool {
 }
 
 fn undo_whole(n: u64, s: &[u8], room: &mut [u8]) -> Undone {
-    let mut flows = [[0u32; 16]; MAX_FLOWS];
-    let mut heads = [[0u32; 3]; MAX_GROUPS];
+    let mut flows = [[0u32; FLOW_WORDS]; MAX_FLOWS];
+    let mut heads = [[0u32; HEAD_WORDS]; MAX_GROUPS];
     let mut members = [[0u16; MAX_MEMBERS]; MAX_GROUPS];
-    let mut early_flows = [[0u32; 16]; MAX_FLOWS];
-    let mut early_heads = [[0u32; 3]; MAX_GROUPS];
+    let mut early_flows = [[0u32; FLOW_WORDS]; MAX_FLOWS];
+    let mut early_heads = [[0u32; HEAD_WORDS]; MAX_GROUPS];
     let mut early_members = [[0u16; MAX_MEMBERS]; MAX_GROUPS];
     undoing::undo(
         s,
@@ -122,11 +124,11 @@ fn undo_whole(n: u64, s: &[u8], room: &mut [u8]) -> Undone {
 fn undo_in_pieces(n: u64, s: &[u8], step: usize, room: &mut [u8]) -> Undone
     requires { ⌜ 1 ≤ step ⌝ }
 {
-    let mut flows = [[0u32; 16]; MAX_FLOWS];
-    let mut heads = [[0u32; 3]; MAX_GROUPS];
+    let mut flows = [[0u32; FLOW_WORDS]; MAX_FLOWS];
+    let mut heads = [[0u32; HEAD_WORDS]; MAX_GROUPS];
     let mut members = [[0u16; MAX_MEMBERS]; MAX_GROUPS];
-    let mut early_flows = [[0u32; 16]; MAX_FLOWS];
-    let mut early_heads = [[0u32; 3]; MAX_GROUPS];
+    let mut early_flows = [[0u32; FLOW_WORDS]; MAX_FLOWS];
+    let mut early_heads = [[0u32; HEAD_WORDS]; MAX_GROUPS];
     let mut early_members = [[0u16; MAX_MEMBERS]; MAX_GROUPS];
     in_pieces(
         n,
