@@ -88,7 +88,7 @@ def run(words, source=b""):
 
 def header(ports):
     """The header of a device's own journal."""
-    return b"RKT\2\0" + bytes([ports])
+    return b"RKT\3\0" + bytes([ports])
 
 
 def version(journal):
@@ -122,7 +122,7 @@ def named_lines(err):
 
 # ---- What is stored beside the programs that check it
 
-STORED_SCRIPTS = ("console", "payloads_run", "frames_run", "incident_run", "worked_run", "night_run", "drivers_run")
+STORED_SCRIPTS = ("console", "payloads_run", "frames_run", "incident_run", "worked_run", "night_run", "drivers_run", "studios_run")
 STORED_REGISTERS = "registers_run"
 STORED_JOURNALS = "replay_run"
 STORED_QUESTIONS = "undo_run"

@@ -1,9 +1,11 @@
 """TLVs as every maker of payloads here writes them: type (4 bytes), length (2), pad (2), the value, filled up to a multiple of 8. A length
-counts the header's 8 bytes and the value (request 2026-02); in a journal of version 1 it counts the value alone (document 01)."""
+counts the header's 8 bytes and the value (request 2026-02), so in journals of versions 2 and 3; in one of version 1 it counts the value alone
+(document 01)."""
 import struct
 
 HEADER = 8  # what a length counts beside the value, as the device has it
-HEADER_OF = {1: 0, 2: HEADER}  # the same by a journal's version
+HEADER_OF = {1: 0, 2: HEADER, 3: HEADER}  # the same by a journal's version
+VERSION = 3  # what a device writes (request 2026-03)
 
 
 def with_length(kind, length, value=b""):

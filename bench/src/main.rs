@@ -4,7 +4,8 @@ mod payload;
 
 use interface::Rocker;
 use model::device::{Calls, Device};
-use payload::{FLOW_ADD, FLOW_MOD};
+use model::frame::LIST;
+use payload::{Family, FLOW_ADD, FLOW_MOD};
 use std::hint::black_box;
 use std::process::{Command, Stdio};
 use std::time::Instant;
@@ -14,6 +15,7 @@ const CREDITS: u64 = 0x1018;
 const RING: u64 = 512;
 const PLACE: usize = 0x8000;
 const RECORDS: u64 = 1_000_000;
+const ROUTES: u16 = 250;
 
 /// The middle one of the samples, in ns.
 fn median(mut samples: Vec<f64>) -> f64 {
@@ -156,13 +158,27 @@ impl<D: Calls> Host<D> {
         host
     }
 
-    fn frame(&self, yardsticks: &Yardsticks, to: [u8; 6], outputs: usize) -> Measured {
-        let frame = payload::frame(to);
-        let mut list = [0; 186];
+    /// One flow each in tables 0, 10 and 20, and 250 routes in table 30 to one neighbour behind port 2: the first network's route has the
+    /// lowest cookie of them.
+    fn router(family: Family) -> Self {
+        let mut host = Self::new();
+        host.ok(&payload::interface(2));
+        host.ok(&payload::neighbour(2));
+        host.ok(&payload::ingress(FLOW_ADD, 1));
+        host.ok(&payload::vlan(FLOW_ADD, 2));
+        host.ok(&payload::termination(FLOW_ADD, 3, family));
+        for network in 1..=ROUTES {
+            host.ok(&payload::route(FLOW_ADD, 3 + u64::from(network), family, network, 2));
+        }
+        host
+    }
+
+    fn frame(&self, yardsticks: &Yardsticks, frame: &[u8], outputs: usize) -> Measured {
+        let mut list = [0; LIST];
         let (mut frames, mut scans) = (Vec::new(), Vec::new());
         for _ in 0..501 {
             frames.push(each(40, || {
-                let done = self.device.frame(1, black_box(&frame), &mut list);
+                let done = self.device.frame(1, black_box(frame), &mut list);
                 assert_eq!(done, Ok(outputs), "the outputs of a frame");
             }));
             scans.push(yardsticks.scan());
@@ -216,14 +232,33 @@ fn cases<D: Calls>() -> Vec<Measured> {
         assert!(host.device.read(4, black_box(CREDITS)).is_ok());
     });
     all.extend([(head, 0.0), (credits, 0.0)]);
-    all.push(host.frame(&yardsticks, payload::mac(1), 1));
-    all.push(host.frame(&yardsticks, payload::mac(247), 1));
-    all.push(host.frame(&yardsticks, payload::mac(300), 0));
-    all.push(host.frame(&yardsticks, [0xff; 6], 61));
+    all.push(host.frame(&yardsticks, &payload::frame(payload::mac(1)), 1));
+    all.push(host.frame(&yardsticks, &payload::frame(payload::mac(247)), 1));
+    all.push(host.frame(&yardsticks, &payload::frame(payload::mac(300)), 0));
+    all.push(host.frame(&yardsticks, &payload::frame([0xff; 6]), 61));
+    for family in [Family::V4, Family::V6] {
+        all.extend(routing::<D>(&mut yardsticks, family));
+    }
     all
 }
 
-const CASES: [&str; 18] = [
+/// A route added, and frames that the first, the last and none of the others decide.
+fn routing<D: Calls>(yardsticks: &mut Yardsticks, family: Family) -> Vec<Measured> {
+    let mut host = Host::<D>::router(family);
+    let (mut adds, mut copies) = (Vec::new(), Vec::new());
+    for _ in 0..2000 {
+        adds.push(host.ok(&payload::route(FLOW_ADD, 1000, family, 300, 2)));
+        host.ok(&payload::flow_del(1000));
+        copies.push(yardsticks.copy());
+    }
+    let mut all = vec![(median(adds), median(copies))];
+    for (network, outputs) in [(1, 1), (ROUTES, 1), (300, 0)] {
+        all.push(host.frame(yardsticks, &payload::routed_frame(family, network), outputs));
+    }
+    all
+}
+
+const CASES: [&str; 26] = [
     "process, flow mod, 0 live (ENOENT)",
     "process, flow add, 0 live",
     "process, flow del, 1 live",
@@ -242,6 +277,14 @@ const CASES: [&str; 18] = [
     "frame, unicast, last of 250 flows",
     "frame, miss, 250 flows",
     "frame, flood of 62",
+    "process, flow add, IPv4 route, 253 live",
+    "frame, IPv4, first of 250 routes",
+    "frame, IPv4, last of 250 routes",
+    "frame, IPv4, no route, 250 routes",
+    "process, flow add, IPv6 route, 253 live",
+    "frame, IPv6, first of 250 routes",
+    "frame, IPv6, last of 250 routes",
+    "frame, IPv6, no route, 250 routes",
 ];
 
 /// What `getrusage` gives: the processor time of user and system, each in seconds and microseconds, and 14 numbers more.

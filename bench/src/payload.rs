@@ -44,7 +44,7 @@ fn prior(kind: u16, cookie: u64, priority: u32) -> Vec<u8> {
     flow(kind, 0, cookie, priority, 10, &[tlv(6, &port), tlv(7, &mask)])
 }
 
-/// Frames from port 1 on the VLAN go on to table 50.
+/// Frames from port 1 on the VLAN go on to table 20.
 pub fn vlan(kind: u16, cookie: u64) -> Vec<u8> {
     let (port, vlan) = (1u32.to_le_bytes(), VLAN.to_be_bytes());
     flow(kind, 10, cookie, 1, 20, &[tlv(6, &port), tlv(14, &vlan)])
@@ -63,6 +63,71 @@ pub fn bridge(kind: u16, cookie: u64, mac: [u8; 6], group: u32) -> Vec<u8> {
     )
 }
 
+/// What is routed, by its EtherType.
+#[derive(Clone, Copy)]
+pub enum Family {
+    V4 = 0x0800,
+    V6 = 0x86dd,
+}
+
+impl Family {
+    fn ethertype(self) -> [u8; 2] {
+        (self as u16).to_be_bytes()
+    }
+
+    /// A network, 10.0.N.0/24 or fd00:0:0:N::/64: its address and mask.
+    fn network(self, n: u16) -> (Vec<u8>, Vec<u8>) {
+        let [high, low] = n.to_be_bytes();
+        match self {
+            Family::V4 => (vec![10, high, low, 0], vec![0xff, 0xff, 0xff, 0]),
+            Family::V6 => {
+                let mut address = vec![0xfd, 0, 0, 0, 0, 0, high, low];
+                let mut mask = vec![0xff; 8];
+                address.resize(16, 0);
+                mask.resize(16, 0);
+                (address, mask)
+            }
+        }
+    }
+
+    /// The type of DST_IP or DST_IPV6; the mask's is the next.
+    fn field(self) -> u32 {
+        match self {
+            Family::V4 => 36,
+            Family::V6 => 38,
+        }
+    }
+
+    /// Where the header has the destination.
+    fn place(self) -> usize {
+        match self {
+            Family::V4 => 16,
+            Family::V6 => 24,
+        }
+    }
+}
+
+const ROUTER: [u8; 6] = [2, 0xaa, 0, 0, 0, 1];
+
+/// Frames from port 1 on the VLAN to the router's MAC go on to table 30.
+pub fn termination(kind: u16, cookie: u64, family: Family) -> Vec<u8> {
+    let (port, vlan) = (1u32.to_le_bytes(), VLAN.to_be_bytes());
+    let fields = [tlv(6, &port), tlv(14, &vlan), tlv(23, &family.ethertype()), tlv(24, &ROUTER)];
+    flow(kind, 20, cookie, 1, 30, &fields)
+}
+
+/// Frames to a network go to the neighbour behind a port.
+pub fn route(kind: u16, cookie: u64, family: Family, n: u16, port: u32) -> Vec<u8> {
+    let (address, mask) = family.network(n);
+    let fields = [
+        tlv(10, &neighbour_id(port).to_le_bytes()),
+        tlv(23, &family.ethertype()),
+        tlv(family.field(), &address),
+        tlv(family.field() + 1, &mask),
+    ];
+    flow(kind, 30, cookie, 1, 60, &fields)
+}
+
 pub fn flow_del(cookie: u64) -> Vec<u8> {
     command(FLOW_DEL, &[tlv(5, &cookie.to_le_bytes())])
 }
@@ -79,6 +144,20 @@ pub fn flood_id(index: u32) -> u32 {
 pub fn interface(port: u32) -> Vec<u8> {
     let (id, port) = (interface_id(port).to_le_bytes(), port.to_le_bytes());
     command(GROUP_ADD, &[tlv(10, &id), tlv(8, &port), tlv(43, &[1])])
+}
+
+pub fn neighbour_id(port: u32) -> u32 {
+    2 << 28 | port
+}
+
+/// The neighbour behind a port: the group of that port, with both MACs.
+pub fn neighbour(port: u32) -> Vec<u8> {
+    let (id, lower) = (neighbour_id(port).to_le_bytes(), interface_id(port).to_le_bytes());
+    let vlan = VLAN.to_be_bytes();
+    command(
+        GROUP_ADD,
+        &[tlv(10, &id), tlv(11, &lower), tlv(14, &vlan), tlv(24, &mac(u64::from(port))), tlv(26, &ROUTER)],
+    )
 }
 
 /// A flood to ports 1 to 62.
@@ -107,6 +186,17 @@ pub fn frame(to: [u8; 6]) -> Vec<u8> {
     bytes
 }
 
+/// The same to a host of a network, by the router.
+pub fn routed_frame(family: Family, n: u16) -> Vec<u8> {
+    let mut bytes = frame(ROUTER);
+    let (address, _) = family.network(n);
+    let at = 18 + family.place();
+    bytes[16..18].copy_from_slice(&family.ethertype());
+    bytes[at..at + address.len()].copy_from_slice(&address);
+    bytes[at + address.len() - 1] = 1;
+    bytes
+}
+
 /// The descriptor of a payload at an address.
 pub fn descriptor(at: u64, length: usize) -> [u8; 32] {
     let mut bytes = [0; 32];
@@ -119,7 +209,7 @@ pub fn descriptor(at: u64, length: usize) -> [u8; 32] {
 /// A journal of so many records on a switch with 250 flows: of ten changes six are mods, each to another priority, two a del and the add after
 /// it, one an add that is refused (EEXIST) and one a del that is refused (ENOENT).
 pub fn journal(records: u64) -> Vec<u8> {
-    let mut bytes = b"RKT\x02\x00\x3e".to_vec();
+    let mut bytes = b"RKT\x03\x00\x3e".to_vec();
     let mut count = 0;
     let mut put = |status: u16, payload: Vec<u8>| {
         bytes.extend((0x8000 | status).to_le_bytes());

@@ -12,7 +12,7 @@
 static struct rocker named, called;
 static bool made;
 static uint8_t memory[2][1 << 20], buffer[2][65536], frame[65536];
-static uint16_t list[2][512];
+static uint16_t list[2][1024];
 static size_t size;
 static unsigned long line_number;
 
@@ -133,9 +133,10 @@ static void frame_in(uint64_t port, size_t length, uint64_t room)
     struct rocker_outcome o;
     uint64_t outputs;
     uint32_t answer = rocker_frame(&named, port, frame, length, list[0], room, &outputs);
-    same(call(ROCKER_FRAME, port, 0, 0, length, 0, room, &o) == answer && o.outputs == outputs && memcmp(list[0], list[1], 6 * outputs) == 0);
+    same(call(ROCKER_FRAME, port, 0, 0, length, 0, room, &o) == answer && o.outputs == outputs);
+    same(memcmp(list[0], list[1], 2 * ROCKER_OUTPUT * outputs) == 0);
     printf("%" PRIu32 " %" PRIu64, answer, outputs);
-    for (uint64_t i = 0; i < 3 * outputs; i++)
+    for (uint64_t i = 0; i < ROCKER_OUTPUT * outputs; i++)
         printf(" %d", list[0][i]);
     putchar('\n');
 }
@@ -176,7 +177,7 @@ static void run(char **w, size_t words)
         process(a);
     } else if (is(w, words, "header", 1) && one && a <= sizeof buffer[0]) {
         header(a);
-    } else if ((is(w, words, "frame", 2) || (is(w, words, "frame", 3) && number(w[3], &c) && c <= 512)) && one && (n = bytes(w[2], frame)) >= 0) {
+    } else if ((is(w, words, "frame", 2) || (is(w, words, "frame", 3) && number(w[3], &c) && c <= 1024)) && one && (n = bytes(w[2], frame)) >= 0) {
         frame_in(a, (size_t)n, c);
     }
 }

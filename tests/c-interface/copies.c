@@ -1,5 +1,5 @@
 /* The bytes that a call copies. memcpy, memmove and memset, which the archive calls for what is long, are counted on their way
- * (`-Wl,--wrap=memcpy,--wrap=memmove,--wrap=memset`). No call may copy a table: the flows have 16,384 bytes, the groups' heads 1,536 and
+ * (`-Wl,--wrap=memcpy,--wrap=memmove,--wrap=memset`). No call may copy a table: the flows have 22,528 bytes, the groups' heads 4,096 and
  * their members 15,872. */
 #include "guest.h"
 
@@ -67,14 +67,25 @@ static void process(const char *name, struct payload p, unsigned status)
     write_register(&guest, CREDITS, 4, 1);
 }
 
-static void frame_in(const char *name, const uint8_t mac[6], uint64_t outputs)
+static void frame_in(const char *name, uint64_t outputs)
 {
     uint64_t got;
-    frame_to(frame, mac);
     begin();
     CHECK(rocker_frame(&guest.device, 1, frame, sizeof frame, list, ROCKER_LIST, &got) == 0);
     end(name, 0, 0);
     CHECK(got == outputs);
+}
+
+static void bridged(const char *name, const uint8_t mac[6], uint64_t outputs)
+{
+    frame_to(frame, mac);
+    frame_in(name, outputs);
+}
+
+static void routed(const char *name, unsigned ethertype, unsigned n, uint64_t outputs)
+{
+    frame_by_router(frame, ethertype, n);
+    frame_in(name, outputs);
 }
 
 /* The wrappers do stand under the archive: fresh fills the tables, by memset or as copies. */
@@ -86,18 +97,11 @@ static void fresh(void)
     CHECK(filled >= sizeof guest.device.flows && copied <= LIMIT);
 }
 
-int main(void)
+/* Calls that do not look at the tables. */
+static void registers(void)
 {
-    static const uint8_t all[6] = {0xff, 0xff, 0xff, 0xff, 0xff, 0xff};
-    uint8_t one[6], none[6];
     struct rocker_outcome o;
     uint64_t value;
-    station(one, 247);
-    station(none, 300);
-
-    printf("%-36s%10s%10s%10s\n", "bytes, 250 flows and 63 groups live", "copied", "at once", "filled");
-    fresh();
-    with_bridge(&guest);
     begin();
     CHECK(rocker_read(&guest.device, CREDITS, 4, &value) == 0);
     end("read", 0, 0);
@@ -110,9 +114,21 @@ int main(void)
     begin();
     CHECK(rocker_header(&guest.device, guest.buffer, sizeof guest.buffer, &o) == 0);
     end("header", 0, 0);
-    frame_in("frame, one output", one, 1);
-    frame_in("frame, miss", none, 0);
-    frame_in("frame, flood of 62", all, 61);
+    begin();
+    CHECK(rocker_call(&guest.device, ROCKER_READ, CREDITS, 4, 0, guest.memory, sizeof guest.memory, frame, sizeof frame, guest.buffer,
+                      sizeof guest.buffer, list, ROCKER_LIST, &o) == 0);
+    end("call: read", 0, 0);
+}
+
+static void bridging(void)
+{
+    static const uint8_t all[6] = {0xff, 0xff, 0xff, 0xff, 0xff, 0xff};
+    uint8_t one[6], none[6];
+    station(one, 247);
+    station(none, 300);
+    bridged("frame, one output", one, 1);
+    bridged("frame, miss", none, 0);
+    bridged("frame, flood of 62", all, 61);
     process("process, flow mod", ingress(FLOW_MOD, 1), 0);
     process("process, flow add", ingress(FLOW_ADD, 1000), 0);
     process("process, flow add, EEXIST", ingress(FLOW_ADD, 1000), 17);
@@ -121,13 +137,42 @@ int main(void)
     process("process, group mod, 62 members", flood(GROUP_MOD, 2, 62), 0);
     process("process, group del", group_del(flood_id(2)), 0);
     process("process, 4,096 bytes", longest(1), 0);
+}
+
+static void routing(unsigned ethertype)
+{
+    routed("frame, routed", ethertype, ROUTES, 1);
+    routed("frame, no route", ethertype, 300, 0);
+    process("process, flow add, a route", route(FLOW_ADD, 1000, ethertype, 300, 1), 0);
+    process("process, flow mod, a route", route(FLOW_MOD, 1000, ethertype, 300, 2), 0);
+    process("process, flow del", flow_del(1000), 0);
+    process("process, group mod, type 2", neighbour(GROUP_MOD, 1), 0);
+    process("process, group del, type 2", group_del(neighbour_id(1)), 0);
+    process("process, group add, type 2", neighbour(GROUP_ADD, 1), 0);
+}
+
+static void title(const char *name)
+{
+    printf("%-36s%10s%10s%10s\n", name, "copied", "at once", "filled");
+}
+
+int main(void)
+{
+    uint64_t raised;
+    title("bytes, 250 flows and 63 groups live");
+    fresh();
+    with_bridge(&guest);
+    registers();
+    bridging();
     begin();
-    CHECK(rocker_call(&guest.device, ROCKER_READ, CREDITS, 4, 0, guest.memory, sizeof guest.memory, frame, sizeof frame, guest.buffer,
-                      sizeof guest.buffer, list, ROCKER_LIST, &o) == 0);
-    end("call: read", 0, 0);
-    begin();
-    CHECK(rocker_write(&guest.device, CONTROL, 4, 1, &value) == 0);
+    CHECK(rocker_write(&guest.device, CONTROL, 4, 1, &raised) == 0);
     end("write, reset", 0, 0);
+    title("bytes, 250 routes, IPv4");
+    with_routes(&guest, IPV4);
+    routing(IPV4);
+    title("bytes, 250 routes, IPv6");
+    with_routes(&guest, IPV6);
+    routing(IPV6);
     printf("no call copies a table; the most that one copied is %zu bytes\n", most);
     return 0;
 }

@@ -1,4 +1,5 @@
-/* What the console's scripts do not reach: numbers that ask for nothing, the bytes around what a call is given, and the size of a device. */
+/* What the console's scripts do not reach: numbers that ask for nothing, the bytes around what a call is given, the size of a device, and
+ * an output's numbers by the names that the header has for them. */
 #include "guest.h"
 
 static struct {
@@ -26,6 +27,35 @@ static uint64_t reads(uint64_t offset, uint64_t width)
 {
     uint64_t value;
     return rocker_read(d, offset, width, &value) == 0 ? value : UINT64_MAX;
+}
+
+/* A frame of 64 bytes has one output, these numbers; what stood behind them in the list is kept. */
+static int gives_one(const struct rocker *from, const uint16_t numbers[ROCKER_OUTPUT])
+{
+    uint64_t outputs;
+    memset(list, 9, sizeof list);
+    return rocker_frame(from, 1, frame, sizeof frame, list, ROCKER_LIST, &outputs) == 0 && outputs == 1
+        && memcmp(list, numbers, 2 * ROCKER_OUTPUT) == 0 && list[ROCKER_OUTPUT] == 0x0909 && list[ROCKER_LIST - 1] == 0x0909;
+}
+
+/* A frame that is routed back to its port, with new MACs, and the same one bridged. */
+static void routed_and_bridged(void)
+{
+    static const uint16_t routed[ROCKER_OUTPUT] = {1, VLAN, 1, 0x02aa, 0, 0x0001, 0x02bb, 0x0102, 0x0301};
+    static const uint16_t bridged[ROCKER_OUTPUT] = {2, VLAN, 1};
+    static struct guest g;
+    uint8_t mac[6], expected[6];
+    with_routes(&g, IPV6);
+    frame_by_router(frame, IPV6, 62);
+    CHECK(gives_one(&g.device, routed));
+    CHECK(list[ROCKER_PORT] == 1 && list[ROCKER_VLAN] == VLAN && list[ROCKER_POP_VLAN] == 1);
+    rocker_mac(list + ROCKER_SOURCE, mac);
+    CHECK(memcmp(mac, router, 6) == 0);
+    rocker_mac(list + ROCKER_DESTINATION, mac);
+    neighbour_mac(expected, 1);
+    CHECK(memcmp(mac, expected, 6) == 0);
+    CHECK(carry_out(&g, flow_del(3)) == 0 && carry_out(&g, bridge(FLOW_ADD, 3, router, interface_id(2))) == 0);
+    CHECK(gives_one(&g.device, bridged));
 }
 
 int main(void)
@@ -58,7 +88,7 @@ int main(void)
     CHECK(memcmp(d, &was, sizeof was) == 0);
     CHECK(call(ROCKER_LINK, 62, 1) == 0 && gives(0, 0) && reads(0x310, 8) == (uint64_t)1 << 62);
     CHECK(call(ROCKER_READ, 0x320, 8) == 0 && gives(7, 0));
-    CHECK(call(ROCKER_HEADER, 0, 0) == 0 && gives(0, 6) && memcmp(buffer, "RKT\2\0\76", 6) == 0);
+    CHECK(call(ROCKER_HEADER, 0, 0) == 0 && gives(0, 6) && memcmp(buffer, "RKT\3\0\76", 6) == 0);
 
     /* The same by the calls' names. */
     was = *d;
@@ -85,5 +115,7 @@ int main(void)
     CHECK(rocker_link(d, 1, 1) == 7 && rocker_frame(d, 1, frame, sizeof frame, list, ROCKER_LIST, &outputs) == 7);
     CHECK(rocker_process(d, memory, sizeof memory, buffer, sizeof buffer, &o) == 3);
     CHECK(memcmp(d, &zero, sizeof zero) == 0);
+
+    routed_and_bridged();
     return 0;
 }

@@ -20,6 +20,7 @@
 enum { BASE_ADDR = 0x1000, SIZE = 0x1008, HEAD = 0x100c, CREDITS = 0x1018, CONTROL = 0x300, ENABLE = 0x318 };
 enum { FLOW_ADD = 3, FLOW_MOD = 4, FLOW_DEL = 5, GROUP_ADD = 7, GROUP_MOD = 8, GROUP_DEL = 9 };
 enum { VLAN = 5, RING = 512, PLACE = 0x8000, MEMORY = 0x10000, LONGEST = 4096 };
+enum { IPV4 = 0x0800, IPV6 = 0x86dd, ROUTES = 250 };
 
 /* ---- Payloads: TLVs one after the other; a TLV's length counts its header, 8 bytes, and the value */
 
@@ -53,11 +54,16 @@ static inline void number(struct payload *p, uint32_t type, uint64_t value, unsi
     tlv(p, type, bytes, width);
 }
 
-/* A VLAN is big-endian. */
+/* A VLAN and an EtherType are big-endian. */
+static inline void big(struct payload *p, uint32_t type, unsigned value)
+{
+    const uint8_t bytes[2] = {(uint8_t)(value >> 8), (uint8_t)value};
+    tlv(p, type, bytes, 2);
+}
+
 static inline void vlan_id(struct payload *p)
 {
-    const uint8_t bytes[2] = {0, VLAN};
-    tlv(p, 14, bytes, 2);
+    big(p, 14, VLAN);
 }
 
 static inline struct payload command(unsigned kind, const struct payload *fields)
@@ -87,7 +93,7 @@ static inline struct payload ingress(unsigned kind, uint64_t cookie)
     return command(kind, &p);
 }
 
-/* Frames from port 1 on the VLAN go on to table 50. */
+/* Frames from port 1 on the VLAN go on to table 20. */
 static inline struct payload vlan(unsigned kind, uint64_t cookie)
 {
     struct payload p = flow(10, cookie, 20);
@@ -103,6 +109,60 @@ static inline struct payload bridge(unsigned kind, uint64_t cookie, const uint8_
     vlan_id(&p);
     tlv(&p, 24, mac, 6);
     number(&p, 10, group, 4);
+    return command(kind, &p);
+}
+
+/* The router's own MAC, and that of the neighbour behind a port. */
+static const uint8_t router[6] = {2, 0xaa, 0, 0, 0, 1};
+
+static inline void neighbour_mac(uint8_t mac[6], unsigned port)
+{
+    const uint8_t bytes[6] = {2, 0xbb, 1, 2, 3, (uint8_t)port};
+    memcpy(mac, bytes, 6);
+}
+
+static inline unsigned address_length(unsigned ethertype)
+{
+    return ethertype == IPV6 ? 16 : 4;
+}
+
+/* Network n: 10.0.n.0/24, or fd00:0:0:n::/64. */
+static inline unsigned network(uint8_t address[16], unsigned ethertype, unsigned n)
+{
+    memset(address, 0, 16);
+    address[0] = ethertype == IPV6 ? 0xfd : 10;
+    address[ethertype == IPV6 ? 6 : 1] = (uint8_t)(n >> 8);
+    address[ethertype == IPV6 ? 7 : 2] = (uint8_t)n;
+    return ethertype == IPV6 ? 64 : 24;
+}
+
+/* Frames from port 1 on the VLAN to the router's MAC go on to table 30. */
+static inline struct payload termination(unsigned kind, uint64_t cookie, unsigned ethertype)
+{
+    struct payload p = flow(20, cookie, 30);
+    number(&p, 6, 1, 4);
+    vlan_id(&p);
+    big(&p, 23, ethertype);
+    tlv(&p, 24, router, 6);
+    return command(kind, &p);
+}
+
+static inline uint32_t neighbour_id(unsigned port)
+{
+    return (uint32_t)2 << 28 | port;
+}
+
+/* Frames to network n go to the neighbour behind a port. */
+static inline struct payload route(unsigned kind, uint64_t cookie, unsigned ethertype, unsigned n, unsigned port)
+{
+    uint8_t address[16], mask[16] = {0};
+    unsigned first = ethertype == IPV6 ? 38 : 36;
+    struct payload p = flow(30, cookie, 60);
+    memset(mask, 0xff, network(address, ethertype, n) / 8);
+    number(&p, 10, neighbour_id(port), 4);
+    big(&p, 23, ethertype);
+    tlv(&p, first, address, address_length(ethertype));
+    tlv(&p, first + 1, mask, address_length(ethertype));
     return command(kind, &p);
 }
 
@@ -145,6 +205,20 @@ static inline struct payload flood(unsigned kind, unsigned index, unsigned ports
     return command(kind, &p);
 }
 
+/* The neighbour behind a port: the group of that port, with both MACs. */
+static inline struct payload neighbour(unsigned kind, unsigned port)
+{
+    uint8_t mac[6];
+    struct payload p = {0};
+    neighbour_mac(mac, port);
+    number(&p, 10, neighbour_id(port), 4);
+    number(&p, 11, interface_id(port), 4);
+    vlan_id(&p);
+    tlv(&p, 24, mac, 6);
+    tlv(&p, 26, router, 6);
+    return command(kind, &p);
+}
+
 static inline struct payload group_del(uint32_t id)
 {
     struct payload p = {0};
@@ -176,6 +250,19 @@ static inline void frame_to(uint8_t frame[64], const uint8_t mac[6])
     memset(frame, 0, 64);
     memcpy(frame, mac, 6);
     memcpy(frame + 6, rest, sizeof rest);
+}
+
+/* A tagged frame of the VLAN to host 1 of network n, by the router. */
+static inline void frame_by_router(uint8_t frame[64], unsigned ethertype, unsigned n)
+{
+    uint8_t address[16];
+    unsigned length = address_length(ethertype);
+    network(address, ethertype, n);
+    address[length - 1] = 1;
+    frame_to(frame, router);
+    frame[16] = (uint8_t)(ethertype >> 8);
+    frame[17] = (uint8_t)ethertype;
+    memcpy(frame + 18 + (ethertype == IPV6 ? 24 : 16), address, length);
 }
 
 /* ---- A switch of 62 ports, all up and enabled, with its guest: descriptors from 0, the payload at PLACE */
@@ -253,6 +340,21 @@ static inline void with_bridge(struct guest *g)
     }
     memset(mac, 0xff, 6);
     CHECK(carry_out(g, bridge(FLOW_ADD, 250, mac, flood_id(1))) == 0);
+}
+
+/* 62 groups of one port and as many neighbours; one flow each in tables 0, 10 and 20, and routes to networks 1 to 250. */
+static inline void with_routes(struct guest *g, unsigned ethertype)
+{
+    start(g);
+    for (unsigned port = 1; port <= 62; port++) {
+        CHECK(carry_out(g, interface(GROUP_ADD, port)) == 0);
+        CHECK(carry_out(g, neighbour(GROUP_ADD, port)) == 0);
+    }
+    CHECK(carry_out(g, ingress(FLOW_ADD, 1)) == 0);
+    CHECK(carry_out(g, vlan(FLOW_ADD, 2)) == 0);
+    CHECK(carry_out(g, termination(FLOW_ADD, 3, ethertype)) == 0);
+    for (unsigned n = 1; n <= ROUTES; n++)
+        CHECK(carry_out(g, route(FLOW_ADD, 3 + n, ethertype, n, 1 + n % 62)) == 0);
 }
 
 /* ---- Numbers at random, the same in each run (splitmix64) */

@@ -1,13 +1,14 @@
 /* Every pattern of bytes is a device: on devices of random words each kind of call ends with an answer. A refused one leaves all as it was,
- * and an accepted one changes what it may and nothing else. Each call is made by its name and, on a copy of all that it is given, by its
- * kind, and the two must agree. What calls are given lies in blocks of its exact size, so that valgrind sees a step beyond.
+ * and an accepted one changes what it may and nothing else; frames are bridged and routed. Each call is made by its name and, on a copy of
+ * all that it is given, by its kind, and the two must agree. What calls are given lies in blocks of its exact size, so that valgrind sees a
+ * step beyond.
  *
  *     patterns ROUNDS */
 #include <stdbool.h>
 
 #include "guest.h"
 
-enum { CALLS = 40, ROOM = 6 + 600, FRAME = 64 };
+enum { CALLS = 40, ROOM = 6 + 600, FRAME = 64, SOME = 8 };
 
 /* All that a call is given. */
 struct given {
@@ -20,7 +21,7 @@ struct given {
 
 static struct given named, called, before;
 static uint64_t seed = 1;
-static unsigned long answers[6][10], made[10], table_changes;
+static unsigned long answers[6][10], made[10], table_changes, bridged, routed, back;
 
 static uint64_t below(uint64_t n)
 {
@@ -89,13 +90,72 @@ static void random_bytes(void *to, size_t length)
         at[i] = (uint8_t)random_number(&seed);
 }
 
-/* A device that was made, with some commands carried out: its tables are in order. */
+/* A device that was made, with some commands carried out: its tables are in order. One in three bridges, the others route. */
 static void used_device(struct rocker *d)
 {
-    static struct guest bridged;
-    if (bridged.head == 0)
-        with_bridge(&bridged);
-    *d = bridged.device;
+    static struct guest used[3];
+    if (used[0].head == 0) {
+        with_bridge(&used[0]);
+        with_routes(&used[1], IPV4);
+        with_routes(&used[2], IPV6);
+    }
+    *d = used[below(3)].device;
+}
+
+static uint32_t word_of(const uint8_t *bytes, unsigned width)
+{
+    uint32_t word = 0;
+    for (unsigned i = 0; i < width; i++)
+        word |= (uint32_t)bytes[i] << 8 * i;
+    return word;
+}
+
+static uint32_t random_id(void)
+{
+    static const uint32_t types[6] = {0, 2, 3, 4, 0, 5};
+    return types[below(6)] << 28 | VLAN << 16 | (uint32_t)below(70);
+}
+
+/* A row whose numbers are those of flows, in any combination. */
+static void random_flow(uint32_t row[22])
+{
+    static const uint16_t tables[6] = {0, 10, 20, 30, 50, 60}, types[3] = {IPV4, IPV6, 0};
+    uint8_t mac[6], address[16];
+    unsigned ethertype = types[below(3)];
+    for (unsigned i = 0; i < 22; i++)
+        row[i] = (uint32_t)below(4);
+    if (below(2))
+        memcpy(mac, router, 6);
+    else
+        station(mac, (unsigned)below(300));
+    row[2] = word_of(mac, 4);
+    row[3] = word_of(mac + 4, 2);
+    row[9] = random_id();
+    row[10] = tables[below(6)];
+    row[11] = tables[below(6)];
+    row[12] = below(2) ? VLAN : row[12];
+    row[16] = ethertype;
+    row[17] = (uint32_t)below(140);
+    network(address, ethertype, (unsigned)below(300));
+    for (unsigned i = 0; i < 2; i++) { /* a word of 64 bits begins with the address's first bytes, its lower half stands first */
+        uint8_t half[8];
+        for (unsigned k = 0; k < 8; k++)
+            half[k] = address[8 * i + 7 - k];
+        row[18 + 2 * i] = word_of(half, 4);
+        row[19 + 2 * i] = word_of(half + 4, 4);
+    }
+}
+
+/* The same of groups; the MACs are not 0. */
+static void random_group(uint32_t head[8], uint16_t members[62])
+{
+    head[0] = random_id();
+    head[2] = (uint32_t)below(300);
+    head[3] = below(4) ? VLAN : (uint32_t)below(4);
+    for (unsigned i = 4; i < 8; i++)
+        head[i] |= 1;
+    for (unsigned i = 0; i < 62; i++)
+        members[i] = (uint16_t)below(70);
 }
 
 static void random_device(struct rocker *d, uint64_t way)
@@ -112,16 +172,11 @@ static void random_device(struct rocker *d, uint64_t way)
             uint32_t word = (uint32_t)random_number(&seed) >> below(32);
             memcpy((uint8_t *)d + 4 * below(sizeof *d / 4), &word, 4);
         }
-    if (way >= 5) { /* small numbers in all tables, as they are in keys and counts */
+    if (way >= 5) { /* tables with what flows and groups have, in any order */
         for (unsigned k = 0; k < ROCKER_FLOWS; k++)
-            for (unsigned i = 0; i < 16; i++)
-                d->flows[k][i] = (uint32_t)below(i == 10 ? 60 : 4);
-        for (unsigned k = 0; k < ROCKER_GROUPS; k++) {
-            d->heads[k][0] = (uint32_t)below(6) << 28 | VLAN << 16 | (uint32_t)below(70);
-            d->heads[k][2] = (uint32_t)below(300);
-            for (unsigned i = 0; i < 62; i++)
-                d->members[k][i] = (uint16_t)below(70);
-        }
+            random_flow(d->flows[k]);
+        for (unsigned k = 0; k < ROCKER_GROUPS; k++)
+            random_group(d->heads[k], d->members[k]);
     }
     if (way >= 3) { /* a ring that stands in memory, as it may be or nearly so; bits that no 32-bit number has */
         uint64_t *r = d->registers;
@@ -141,22 +196,25 @@ static void random_device(struct rocker *d, uint64_t way)
     }
 }
 
-/* Five commands, each at its place, and descriptors that mostly point to one of them. */
+/* Eight commands, each at its place, and descriptors that mostly point to one of them. */
 static void random_memory(struct given *g)
 {
-    static struct payload some[5];
+    static struct payload some[SOME];
     if (some[0].length == 0) {
         some[0] = ingress(FLOW_ADD, 1000);
         some[1] = ingress(FLOW_MOD, 1);
         some[2] = flow_del(2);
         some[3] = interface(GROUP_ADD, 1);
-        some[4] = flood(GROUP_MOD, 1, 20);
+        some[4] = termination(FLOW_ADD, 1001, IPV4);
+        some[5] = route(FLOW_MOD, 200, IPV6, 300, 1);
+        some[6] = neighbour(GROUP_MOD, 2);
+        some[7] = flood(GROUP_MOD, 1, 20);
     }
     random_bytes(g->memory, g->memory_length);
     for (unsigned k = 0; k < 16; k++) {
-        const struct payload *p = &some[k % 5];
-        uint64_t place = 512 + 128 * (k % 5);
-        CHECK(p->length <= 128 || k % 5 == 4);
+        const struct payload *p = &some[k % SOME];
+        uint64_t place = 512 + 168 * (k % SOME);
+        CHECK(p->length <= 168 || k % SOME == SOME - 1);
         if (place + p->length <= g->memory_length) {
             memcpy(g->memory + place, p->bytes, p->length);
             describe(g->memory + 32 * k, place, p->length);
@@ -170,7 +228,11 @@ static void random_frame(struct given *g)
 {
     uint8_t mac[6] = {0xff, 0xff, 0xff, 0xff, 0xff, 0xff};
     random_bytes(g->frame, g->frame_length);
-    if (below(4) && g->frame_length == FRAME) {
+    if (g->frame_length != FRAME || below(4) == 0)
+        return;
+    if (below(2)) { /* the neighbour of network 62 is behind port 1 */
+        frame_by_router(g->frame, below(2) ? IPV4 : IPV6, below(2) ? 62 : (unsigned)below(300));
+    } else {
         if (below(2))
             station(mac, (unsigned)below(300));
         frame_to(g->frame, mac);
@@ -189,7 +251,7 @@ static void check_changes(uint64_t kind, const struct rocker_outcome *o)
 {
     bool registers = memcmp(before.device->registers, named.device->registers, sizeof named.device->registers) != 0;
     bool tables = memcmp(before.device->flows, named.device->flows, sizeof *named.device - sizeof named.device->registers) != 0;
-    size_t at = 0, end = named.memory_length;
+    size_t at = 0, end = named.memory_length, written = ROCKER_OUTPUT * o->outputs;
     while (at < end && before.memory[at] == named.memory[at])
         at++;
     while (end > at && before.memory[end - 1] == named.memory[end - 1])
@@ -199,9 +261,23 @@ static void check_changes(uint64_t kind, const struct rocker_outcome *o)
     CHECK(!tables || (kind == ROCKER_PROCESS && o->completed == 0x8000));
     CHECK(kind == ROCKER_PROCESS || kind == ROCKER_WRITE || kind == ROCKER_LINK || !registers);
     CHECK(kind == ROCKER_PROCESS ? o->bytes >= 6 && o->completed >= 0x8000 : kind == ROCKER_HEADER ? o->bytes == 6 : o->bytes == 0);
-    CHECK(o->bytes <= named.buffer_length && 3 * o->outputs <= named.list_length && o->outputs <= 62);
+    CHECK(o->bytes <= named.buffer_length && written <= named.list_length && o->outputs <= 62);
     CHECK(memcmp(before.buffer + o->bytes, named.buffer + o->bytes, named.buffer_length - o->bytes) == 0);
-    CHECK(memcmp(before.list + 3 * o->outputs, named.list + 3 * o->outputs, 2 * (named.list_length - 3 * o->outputs)) == 0);
+    CHECK(memcmp(before.list + written, named.list + written, 2 * (named.list_length - written)) == 0);
+}
+
+/* By the port that a frame came in at it leaves only if it is routed. No device here routes to MACs of 0. */
+static void check_outputs(uint64_t ingress, uint64_t outputs)
+{
+    static const uint16_t none[6];
+    for (uint64_t k = 0; k < outputs; k++) {
+        const uint16_t *numbers = named.list + ROCKER_OUTPUT * k;
+        bool is_routed = memcmp(numbers + ROCKER_SOURCE, none, sizeof none) != 0;
+        CHECK(numbers[ROCKER_POP_VLAN] <= 1 && (is_routed || numbers[ROCKER_PORT] != ingress));
+        bridged += !is_routed;
+        routed += is_routed;
+        back += numbers[ROCKER_PORT] == ingress;
+    }
 }
 
 static uint32_t by_name(uint64_t kind, uint64_t a, uint64_t b, uint64_t c, struct rocker_outcome *o)
@@ -233,9 +309,10 @@ static void call(uint64_t kind, uint64_t a, uint64_t b, uint64_t c)
                       g->list_length, &p) == answer);
     CHECK(memcmp(&o, &p, sizeof o) == 0 && same_meaning(&named, &called));
     CHECK(answer <= 9 && memcmp(named.frame, before.frame, named.frame_length) == 0);
-    if (answer == 0)
+    if (answer == 0) {
         check_changes(kind, &o);
-    else
+        check_outputs(a, o.outputs);
+    } else
         CHECK(is_zero(&o) && same(&named, &before) && same(&called, &before));
     answers[kind][answer]++;
 }
@@ -257,7 +334,7 @@ static void a_call(void)
     case ROCKER_READ:
     case ROCKER_WRITE: register_call(kind); break;
     case ROCKER_LINK: call(kind, below(4) ? below(65) : random_number(&seed), below(4) ? below(2) : random_number(&seed), 0); break;
-    case ROCKER_FRAME: call(kind, below(4) ? below(65) : random_number(&seed), 0, 0); break;
+    case ROCKER_FRAME: call(kind, below(4) ? (below(2) ? 1 : below(65)) : random_number(&seed), 0, 0); break;
     case ROCKER_HEADER: call(kind, 0, 0, 0); break;
     default: call(ROCKER_PROCESS, 0, 0, 0);
     }
@@ -279,8 +356,8 @@ static void fresh(void)
 
 static void a_round(unsigned long n)
 {
-    size_t memory = below(4) ? 2048 : below(700), room = below(4) ? ROOM : below(100), list = below(4) ? ROCKER_LIST : below(300);
-    size_t frame = below(4) ? FRAME : below(70);
+    size_t memory = below(4) ? 2304 : below(700), room = below(4) ? ROOM : below(100);
+    size_t list = below(4) ? ROCKER_LIST : below(700), frame = below(4) ? FRAME : below(70);
     named = blocks(memory, room, list, frame);
     called = blocks(memory, room, list, frame);
     before = blocks(memory, room, list, frame);
@@ -321,6 +398,7 @@ int main(int count, char **words)
     printf("fresh     0: %lu  7: %lu\n", made[0], made[7]);
     CHECK(made[0] > 0 && made[7] > 0);
     printf("devices of any bytes: %lu, calls on them: %lu, tables changed: %lu\n", rounds, all, table_changes);
-    CHECK(table_changes > 0);
+    printf("outputs: %lu bridged, %lu routed, %lu of them by the port that the frame came in at\n", bridged, routed, back);
+    CHECK(table_changes > 0 && bridged > 0 && routed > back && back > 0);
     return 0;
 }

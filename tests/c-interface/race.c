@@ -14,7 +14,7 @@
 
 #include "guest.h"
 
-enum { SLOTS = 8, PLACES = 4, TEMPLATES = 16, LENGTH = 136, RECORDS = 20000, BEYOND = 64 };
+enum { SLOTS = 8, PLACES = 4, TEMPLATES = 21, LENGTH = 176, RECORDS = 20000, BEYOND = 64 };
 
 static struct rocker device;
 static _Alignas(8) uint8_t memory[MEMORY];
@@ -44,6 +44,11 @@ static void make_templates(void)
     templates[n++] = flood(GROUP_ADD, 1, 2);
     templates[n++] = flood(GROUP_MOD, 1, 1);
     templates[n++] = group_del(flood_id(1));
+    templates[n++] = route(FLOW_ADD, 2, IPV4, 1, 1);
+    templates[n++] = route(FLOW_MOD, 3, IPV6, 2, 1);
+    templates[n++] = termination(FLOW_ADD, 1, IPV6);
+    templates[n++] = neighbour(GROUP_ADD, 1);
+    templates[n++] = group_del(neighbour_id(1));
     templates[n++] = command(99, &(struct payload){0});
     CHECK(n == TEMPLATES);
     /* all of one length, by a TLV that no command asks for */

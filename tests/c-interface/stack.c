@@ -109,29 +109,23 @@ static void process(const char *name, struct payload p, unsigned status)
     CHECK(outcome.completed == 0x8000 + status);
 }
 
-static void frame_in(const char *name, const char *by_kind, const uint8_t mac[6], uint64_t outputs)
+static void frame_in(const char *name, const char *by_kind, uint64_t outputs)
 {
-    frame_to(frame, mac);
     call((struct asked){name, BY_NAME, ROCKER_FRAME, 1, 0, 0, 0});
     CHECK(outcome.outputs == outputs);
     call((struct asked){by_kind, BY_KIND, ROCKER_FRAME, 1, 0, 0, 0});
     CHECK(outcome.outputs == outputs);
 }
 
-int main(void)
+static void bridged(const char *name, const char *by_kind, const uint8_t mac[6], uint64_t outputs)
 {
-    static const uint8_t all[6] = {0xff, 0xff, 0xff, 0xff, 0xff, 0xff};
-    uint8_t one[6], none[6];
-    size_t thread;
-    station(one, 247);
-    station(none, 300);
+    frame_to(frame, mac);
+    frame_in(name, by_kind, outputs);
+}
 
-    printf("%-42s%7s of %d\n", "bytes of stack touched", "", ROCKER_STACK);
-    thread = measure((struct asked){"the thread, without a call", NOTHING, 0, 0, 0, 0, 0});
-    call((struct asked){"fresh", FRESH, 0, 62, 0, 0, 0});
-    call((struct asked){"fresh, refused", FRESH, 0, 63, 0, 0, 7});
-
-    with_bridge(&guest);
+/* Calls that do not look at the tables. */
+static void registers(void)
+{
     call((struct asked){"read", BY_NAME, ROCKER_READ, CREDITS, 4, 0, 0});
     call((struct asked){"read, refused", BY_NAME, ROCKER_READ, 3, 4, 0, 1});
     call((struct asked){"write", BY_NAME, ROCKER_WRITE, HEAD, 4, guest.head, 0});
@@ -142,10 +136,17 @@ int main(void)
     call((struct asked){"call: link", BY_KIND, ROCKER_LINK, 5, 1, 0, 0});
     call((struct asked){"call: header", BY_KIND, ROCKER_HEADER, 0, 0, 0, 0});
     call((struct asked){"call: a kind that is none", BY_KIND, 6, 0, 0, 0, 2});
+}
 
-    frame_in("frame, one output", "call: frame, one output", one, 1);
-    frame_in("frame, miss", "call: frame, miss", none, 0);
-    frame_in("frame, flood of 62", "call: frame, flood of 62", all, 61);
+static void bridging(void)
+{
+    static const uint8_t all[6] = {0xff, 0xff, 0xff, 0xff, 0xff, 0xff};
+    uint8_t one[6], none[6];
+    station(one, 247);
+    station(none, 300);
+    bridged("frame, one output", "call: frame, one output", one, 1);
+    bridged("frame, miss", "call: frame, miss", none, 0);
+    bridged("frame, flood of 62", "call: frame, flood of 62", all, 61);
     call((struct asked){"frame, refused", BY_NAME, ROCKER_FRAME, 63, 0, 0, 7});
 
     process("process, flow mod", ingress(FLOW_MOD, 1), 0);
@@ -156,11 +157,47 @@ int main(void)
     process("process, group del", group_del(flood_id(1)), 0);
     process("process, ENOTSUP", command(99, &(struct payload){0}), 95);
     process("process, 4,096 bytes", longest(2), 0);
+}
+
+static void routing(unsigned ethertype)
+{
+    frame_by_router(frame, ethertype, ROUTES);
+    frame_in("frame, routed", "call: frame, routed", 1);
+    frame_by_router(frame, ethertype, 300);
+    frame_in("frame, no route", "call: frame, no route", 0);
+    process("process, flow add, a route", route(FLOW_ADD, 1000, ethertype, 300, 1), 0);
+    process("process, flow mod, a route", route(FLOW_MOD, 4, ethertype, 1, 3), 0);
+    process("process, flow mod, table 20", termination(FLOW_MOD, 3, ethertype), 0);
+    process("process, group mod, type 2", neighbour(GROUP_MOD, 1), 0);
+    process("process, group del, type 2", group_del(neighbour_id(1)), 0);
+    process("process, group add, type 2", neighbour(GROUP_ADD, 1), 0);
+}
+
+static void refused_and_reset(void)
+{
     post(&guest, &(struct payload){0});
     write_register(&guest, BASE_ADDR, 8, MEMORY);
     call((struct asked){"process, refused", BY_NAME, ROCKER_PROCESS, 0, 0, 0, 3});
     call((struct asked){"write, reset", BY_NAME, ROCKER_WRITE, CONTROL, 4, 1, 0});
+}
 
+int main(void)
+{
+    size_t thread;
+    printf("%-42s%7s of %d\n", "bytes of stack touched", "", ROCKER_STACK);
+    thread = measure((struct asked){"the thread, without a call", NOTHING, 0, 0, 0, 0, 0});
+    call((struct asked){"fresh", FRESH, 0, 62, 0, 0, 0});
+    call((struct asked){"fresh, refused", FRESH, 0, 63, 0, 0, 7});
+    with_bridge(&guest);
+    registers();
+    bridging();
+    refused_and_reset();
+    printf("250 routes, IPv4\n");
+    with_routes(&guest, IPV4);
+    routing(IPV4);
+    printf("250 routes, IPv6\n");
+    with_routes(&guest, IPV6);
+    routing(IPV6);
     printf("the deepest call touched %zu bytes, of which the thread itself keeps %zu\n", deepest, thread);
     return 0;
 }

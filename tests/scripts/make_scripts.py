@@ -5,6 +5,7 @@ NAME is payloads_run, frames_run or incident_run; or edges or credits, the first
 worked_run is worked.py's. The outcomes, crates/NAME/stdout, come from the second implementation of the device and never from these
 programs: tests/scripts/store writes all of them.
 """
+import ipaddress
 import pathlib
 import struct
 import sys
@@ -65,6 +66,36 @@ def bridge(cookie, priority=0, vid=100, mac=None, goto=60, group=None):
     if mac is not None:
         fields[24] = bytes.fromhex(mac)
     return fields
+
+
+IPV4, IPV6 = 0x0800, 0x86DD
+
+
+def termination(cookie, priority=0, port=1, ethertype=IPV4, mac="029900000001", vid=100, goto=30):
+    return {1: le16(20), 2: le32(priority), 5: le64(cookie), 6: le32(port), 9: le16(goto), 14: be16(vid), 23: be16(ethertype),
+            24: bytes.fromhex(mac)}
+
+
+def prefix(text):
+    """EtherType, address and mask of 10.1.2.3/24 or 2001:db8::1/64, the address as it stands."""
+    found = ipaddress.ip_interface(text)
+    return {4: IPV4, 6: IPV6}[found.version], found.ip.packed, found.network.netmask.packed
+
+
+def route(cookie, to, priority=0, goto=60, group=None):
+    """A route to a prefix, by the group of type 2 with this index."""
+    ethertype, address, mask = prefix(to)
+    fields = {1: le16(30), 2: le32(priority), 5: le64(cookie), 9: le16(goto)}
+    if group is not None:
+        fields[10] = le32(2 << 28 | group)
+    first = {IPV4: 36, IPV6: 38}[ethertype]
+    return fields | {23: be16(ethertype), first: address, first + 1: mask}
+
+
+def neighbour(index, vid, port, source="029900000002", destination="021122334455"):
+    """A group of type 2 over that of a port."""
+    return {10: le32(2 << 28 | index), 11: le32(group_id(0, vid, port)), 14: be16(vid), 24: bytes.fromhex(destination),
+            26: bytes.fromhex(source)}
 
 
 def interface(vid, port, pop=0):
@@ -166,7 +197,9 @@ def flow_payloads(s):
     shapes = [("table 0", ingress(1)), ("table 10, tagged", vlan(2)), ("table 10, untagged", vlan(3, vid=0, new=7)),
               ("table 50, unicast", bridge(4, mac="0200000000aa", group=group_id(0, 100, 2))),
               ("table 50, multicast", bridge(5, mac="0300000000aa", group=group_id(3, 100, 2))),
-              ("table 50, flood", bridge(6, group=group_id(4, 100, 2))), ("table 50, no group", bridge(7))]
+              ("table 50, flood", bridge(6, group=group_id(4, 100, 2))), ("table 50, no group", bridge(7)),
+              ("table 20", termination(8)), ("table 30, IPv4", route(9, "10.1.2.3/24", group=5)),
+              ("table 30, IPv6", route(10, "2001:db8::1/64"))]
     for name, fields in shapes:
         s.note(f"Flows of {name}: mod of none, add, add again, mod, each fault of each field, del, del again.")
         for command in [4, 3, 3, 4]:
@@ -186,7 +219,7 @@ def flow_payloads(s):
 
 def flow_values(s):
     s.note("TBL: other tables are ENOTSUP, also with nothing else; a TBL that is wrong in form is EINVAL.")
-    for table in [1, 20, 30, 40, 51, 60, 0x100, 65535]:
+    for table in [1, 40, 51, 60, 0x100, 0x1400, 0x1E00, 65535]:
         s.command(3, {1: le16(table)})
         s.command(4, ingress(1) | {1: le16(table)})
     s.note("Values of table 0, of table 10, of table 50.")
@@ -206,6 +239,33 @@ def flow_values(s):
             s.command(3, bridge(24, mac=mac, group=group_id(kind, 100, 9)))
             s.command(5, {5: le64(24)})
     s.changed(3, unicast, [(10, le32(group_id(0, 0, 2))), (10, le32(group_id(0, 4095, 2))), (10, le32(group_id(15, 100, 2)))])
+    s.note("Values of table 20: ports, VLANs, EtherTypes, any MAC; 30 alone is where it goes.")
+    stop = termination(27)
+    s.changed(3, stop, [(6, le32(n)) for n in [0, PORTS + 1, 0x10001]] + [(14, be16(n)) for n in [0, 4095, 65535]])
+    s.changed(3, stop, [(23, be16(n)) for n in [0, 0x0008, 0x0806, 0x8100, 0x86DC, 0xDD86, 0xFFFF]])
+    s.changed(3, stop, [(9, le16(n)) for n in [0, 10, 20, 40, 50, 60, 0x1E00]] + [(24, bytes(6))])
+    s.changed(4, stop, [(6, le32(PORTS)), (14, be16(1)), (14, be16(4094)), (23, be16(IPV6)), (24, b"\xff" * 6)])
+    s.note("Values of table 30: each prefix length of IPv4, masks that are none, the edges of unicast, GOTO_TBL, groups of other types.")
+    for ones in range(33):
+        s.command(4 if ones else 3, route(28, f"10.1.2.3/{ones}"))
+    old = route(28, "10.1.2.3/24")
+    s.changed(4, old, [(37, bytes.fromhex(mask)) for mask in ["ffffff01", "fffffeff", "7fffffff", "00ffffff", "000000ff", "fffffffd", "ff00ff00"]])
+    s.changed(4, old, [(36, bytes([first, 1, 2, 3])) for first in [0, 1, 127, 223, 224, 239, 240, 255]])
+    s.changed(4, old, [(9, le16(n)) for n in [0, 10, 20, 30, 50, 0x3C00]] + [(10, le32(group_id(kind, 100, 2))) for kind in range(6)])
+    s.note("The same with IPv6; then the fields of the other EtherType, of any width and twice, and an ETHERTYPE that is not theirs.")
+    six = route(28, "2001:db8::1/64", group=7)
+    for ones in [0, 1, 31, 32, 33, 63, 65, 127, 128]:
+        s.command(4, route(28, f"2001:db8::1/{ones}"))
+    s.changed(4, six, [(39, six[39][:at] + bytes([bits]) + six[39][at + 1:]) for at, bits in [(0, 0xFE), (7, 0xFD), (8, 0x01), (8, 0x40), (15, 1)]])
+    s.changed(4, six, [(38, bytes([first]) + six[38][1:]) for first in [0, 1, 223, 224, 254, 255]])
+    for more in [(38, bytes(16)), (39, bytes(16)), (38, b""), (39, bytes(4))]:
+        s.run(payload(4, listed(old) + [tlv(*more)]))
+        s.run(payload(4, listed(old) + [tlv(*more), tlv(*more)]))
+    for more in [(36, bytes(4)), (37, bytes(4)), (36, b""), (37, bytes(16))]:
+        s.run(payload(4, [tlv(*more)] + listed(six)))
+    s.changed(4, old, [(23, be16(IPV6))])
+    s.changed(4, six, [(23, be16(IPV4))])
+    s.run(payload(4, listed(old | six)))
     s.note("Fields of another table are skipped, also twice or of another width.")
     s.run(payload(3, listed(ingress(25)) + [tlv(14, b""), tlv(14, b"\1"), tlv(10, b"x"), tlv(24, b"")]))
     s.run(payload(3, listed(bridge(26)) + [tlv(6, b""), tlv(6, le32(1)), tlv(7, b"x"), tlv(43, b"xy")]))
@@ -213,21 +273,36 @@ def flow_values(s):
 
 def group_payloads(s):
     shapes = [("type 0", interface(200, 3, 1)), ("type 0, the host", interface(200, 0)),
-              ("type 3", several(3, 200, 7, [1, 2, 3])), ("type 4", several(4, 200, 7, [4, 2, 0, 8]))]
+              ("type 3", several(3, 200, 7, [1, 2, 3])), ("type 4", several(4, 200, 7, [4, 2, 0, 8])),
+              ("type 2", neighbour(7, 200, 3))]
     for name, fields in shapes:
         s.note(f"Groups of {name}: mod of none, add, add again, mod, each fault of each field, del, del again.")
         for command in [8, 7, 7, 8]:
             s.command(command, fields)
         s.faults(8, fields)
-        s.run(payload(7, listed(fields) + [tlv(6, b""), tlv(24, b"x")]))
+        s.run(payload(7, listed(fields) + [tlv(6, b""), tlv(19, b"x")]))
         for _ in range(2):
             s.command(9, {10: fields[10]})
     s.note("Other types and VLANs, in add and in del; del does not look at the low bits' range.")
-    for kind, vid in [(1, 200), (2, 200), (5, 200), (15, 200), (0, 0), (0, 4095), (3, 0), (4, 4095)]:
+    for kind, vid in [(1, 200), (5, 200), (6, 200), (15, 200), (0, 0), (0, 4095), (3, 0), (4, 4095)]:
         s.command(7, interface(200, 3) | several(3, 200, 7, [1]) | {10: le32(group_id(kind, vid, 3))})
         s.command(9, {10: le32(group_id(kind, vid, 3))})
     s.command(9, {10: le32(group_id(0, 200, 0xFFFF))})
     s.command(9, {})
+    s.note("Type 2: any index, a VLAN from 1 to 4094, and a lower group of type 0 and that VLAN, which need not be there.")
+    for index in [0, 0xFFFF, 0x10000, 0xFFF0000, 0xFFFFFFF]:
+        s.command(7, neighbour(index, 200, 3))
+    base = neighbour(0, 200, 3)
+    s.changed(8, base, [(11, le32(group_id(kind, 200, 3))) for kind in [1, 2, 3, 4, 8, 15]])
+    s.changed(8, base, [(11, le32(group_id(0, vid, 3))) for vid in [0, 199, 201, 4095]] + [(11, le32(group_id(0, 200, 0xFFFF)))])
+    for vid in [0, 1, 4094, 4095]:
+        s.command(8, neighbour(0, vid, 3))
+    s.changed(8, base, [(24, bytes(6)), (24, b"\xff" * 6), (26, bytes(6)), (26, b"\xff" * 6), (14, be16(0x10C8))])
+    s.note("Neither table 50 nor a list takes one.")
+    s.command(3, bridge(30, mac="0200000000aa", group=2 << 28 | 0))
+    s.command(7, several(3, 200, 8, [1]) | {13: members([2 << 28 | 200 << 16 | 1])})
+    s.command(9, {10: le32(2 << 28 | 0xFFF0000)})
+    s.command(9, {10: le32(2 << 28 | 0xFFF0000)})
     s.note("Values of type 0: OUT_PPORT and the low bits, POP_VLAN.")
     base = interface(200, 3)
     s.changed(7, base, [(8, le32(2)), (8, le32(0x10003)), (43, b"\2"), (43, b"\xff")])
@@ -326,12 +401,16 @@ def descriptor_faults(s):
     s.add(f"peek {s.base + 32 * slot:#x} 32")
 
 
+def any_route(cookie, priority):
+    return route(cookie, f"10.{cookie % 256}.2.3/{cookie % 33}" if priority % 2 else f"2001:db8::{cookie % 256}/{cookie % 129}", priority)
+
+
 def full_tables(s):
     s.note("A device reset empties the tables; then 256 flows, one more, an add of a live one, a mod, a del and again one more.")
     s.add("write 4 0x300 1")
     s.ring(0, 16)
     for n in range(256):
-        s.command(3, [ingress, vlan, bridge][n % 3](n * 0x101, priority=n))
+        s.command(3, [ingress, vlan, bridge, termination, any_route][n % 5](n * 0x101, priority=n))
     s.command(3, ingress(0x1000000))
     s.command(3, ingress(255 * 0x101))
     s.command(4, bridge(255 * 0x101, vid=9))
@@ -341,7 +420,8 @@ def full_tables(s):
     s.command(3, ingress(0x1000001))
     s.note("The same with 128 groups.")
     for n in range(128):
-        s.command(7, interface(1 + n, n % (PORTS + 1)) if n % 2 else several(3 + n // 2 % 2, 1 + n, n, [1, 2, 3]))
+        s.command(7, interface(1 + n, n % (PORTS + 1)) if n % 2 else neighbour(n, 1 + n, 1) if n % 8 == 6 else
+                  several(3 + n // 2 % 2, 1 + n, n, [1, 2, 3]))
     s.command(7, interface(1000, 1))
     s.command(7, interface(128, 127 % (PORTS + 1)))
     s.command(8, interface(128, 127 % (PORTS + 1), 1))
@@ -412,13 +492,13 @@ def frame_shapes(s):
     for length in [0, 1, 12, 13, 14, 17, 18, 9216, 9217]:
         send(s, [1], frame(UNICAST, tag=100, length=length))
         send(s, [1], frame(UNICAST, length=length))
-    s.note("Lists of 185, 186, 512 and none; ports that are not there, unshortened.")
-    for length in [0, 185, 186, 187, 512]:
+    s.note("Lists of 557, 558, 1,024 and none; ports that are not there, unshortened.")
+    for length in [0, 186, 557, 558, 559, 1024]:
         send(s, [1], frame(OTHER, tag=100), length)
     send(s, [0, PORTS + 1, 62, 63, 0x100000001, (1 << 64) - 1], frame(OTHER, tag=100))
     s.note("Several faults: the lower number is given.")
-    send(s, [9], frame(OTHER, tag=100, length=13), 185)
-    send(s, [1], frame(OTHER, tag=100, length=13), 185)
+    send(s, [9], frame(OTHER, tag=100, length=13), 557)
+    send(s, [1], frame(OTHER, tag=100, length=13), 557)
 
 
 def frame_ports(s):
@@ -477,6 +557,76 @@ def frame_priorities(s):
     send(s, [1], flood)
 
 
+def routed(to, tag=None, length=None, mac="029900000001", source="020000000099", ethertype=None):
+    """A frame to the router, for an address; length counts the bytes after the EtherType."""
+    kind, address, _ = prefix(to)
+    body = (bytes([0x45]) + bytes(n for n in range(1, 16)) if kind == IPV4 else bytes([0x60]) + bytes(range(1, 24))) + address
+    head = bytes.fromhex(mac + source) + (b"\x81\x00" + be16(tag) if tag is not None else b"")
+    body += bytes(max(0, (length or 0) - len(body)))
+    return head + be16(kind if ethertype is None else ethertype) + body[:length]
+
+
+def frame_routes(s):
+    s.note("Routed: from VLAN 100, tagged and untagged at port 1, tagged at 2; neighbours in VLAN 300 behind ports 1 to 4 and the host.")
+    for port in [0, 1, 2, 3, 4]:
+        s.command(7, interface(300, port, int(port == 3)))
+        s.command(7, neighbour(port, 300, port, destination=f"0211000000{port:02x}"))
+    s.command(7, neighbour(9, 300, 9))
+    for k, (port, kind) in enumerate([(1, IPV4), (1, IPV6), (2, IPV4), (2, IPV6)]):
+        s.command(3, termination(600 + k, port=port, ethertype=kind))
+    addresses = ["10.1.2.3", "10.1.2.4", "10.1.3.3", "10.2.2.3", "11.1.2.3", "239.1.2.3", "2001:db8::1", "2001:db8::2", "2001:db9::1", "ff02::1"]
+    s.note("No route: all are dropped, also those to the router's MAC that a flood would take.")
+    for to in addresses:
+        send(s, [1], routed(to))
+    routes = [("10.1.2.3/32", 4), ("10.1.2.0/24", 3), ("10.1.0.0/16", 2), ("10.0.0.0/8", 0), ("0.0.0.0/0", 1),
+              ("2001:db8::1/128", 4), ("2001:db8::/64", 3), ("2001:db8::/32", 2), ("::/0", 0)]
+    for k, (to, group) in enumerate(routes):
+        s.note(f"A route to {to} over neighbour {group}: the higher the prefix the lower its PRIORITY.")
+        s.command(3, route(700 + k, to, priority=k, group=group))
+        for address in addresses:
+            send(s, [1], routed(address))
+    s.note("Tagged, from port 2, of VLANs 101 and 0, from port 3 and to another MAC: the last two are bridged.")
+    for to in addresses[:1] + addresses[6:7]:
+        send(s, [1, 2, 3], routed(to, tag=100))
+        send(s, [1, 2], routed(to, tag=0xF064))
+        send(s, [1], routed(to, tag=101))
+        send(s, [1], routed(to, tag=0))
+        send(s, [1], routed(to, mac=UNICAST))
+        send(s, [1], routed(to, ethertype=0x0806))
+        send(s, [1], routed(to, tag=100, ethertype=0x8100))
+    s.note("Lengths after the EtherType: 0, 18 to 21, 38 to 41, with and without a tag.")
+    for to in ("10.9.9.9", "2001:db8::77"):
+        for length in [0, 18, 19, 20, 21, 22, 36, 38, 39, 40, 41]:
+            send(s, [1], routed(to, length=length))
+            send(s, [1], routed(to, tag=100, length=length))
+    s.note("A neighbour behind a port that is down or not enabled; and the ingress port, which takes routed frames.")
+    s.add("link 3 0", "write 8 0x318 0x1ef")
+    for to in addresses:
+        send(s, [1], routed(to))
+    s.add("link 3 1", "write 8 0x318 0x1ff")
+    send(s, [1, 2], routed("11.1.2.3", tag=100))
+    s.note("Ties of one prefix: the highest PRIORITY, then the lower cookie; a longer prefix without group, with GOTO_TBL 0, without its group.")
+    s.command(3, route(690, "10.1.2.99/24", priority=0, group=1))
+    send(s, [1], routed("10.1.2.4"))
+    s.command(4, route(690, "10.1.2.99/24", priority=1, group=1))
+    send(s, [1], routed("10.1.2.4"))
+    s.command(4, route(690, "10.1.2.99/24", priority=0x80000000, group=0))
+    send(s, [1], routed("10.1.2.4"))
+    for changed in [route(690, "10.1.2.4/30", group=None), route(690, "10.1.2.4/31", group=3, goto=0), route(690, "10.1.2.4/32", group=77),
+                    route(690, "10.1.2.4/32", group=9), route(690, "10.1.2.4/32", group=2)]:
+        s.command(4, changed)
+        send(s, [1], routed("10.1.2.4"))
+    s.note("The neighbour's port changes, its lower group goes and comes back, then the neighbour itself.")
+    for command, fields in [(8, neighbour(2, 300, 3, source="0203040506aa", destination="ffeeddccbbaa")), (9, {10: le32(group_id(0, 300, 3))}),
+                            (7, interface(300, 3, 0)), (9, {10: le32(2 << 28 | 2)})]:
+        s.command(command, fields)
+        send(s, [1], routed("10.1.2.4"))
+    for cookie in [*range(600, 604), 690, *range(700, 709)]:
+        s.command(5, {5: le64(cookie)})
+    s.note("Without the flows of table 20 the same frames are bridged.")
+    send(s, [1], routed("10.1.2.4"))
+
+
 def large_group(s):
     s.note("A new device of 62 ports, all up and enabled, and a flood group of 62 members; then one without the host.")
     s.add("fresh 63 1", "fresh 62 1", "write 8 0x318 0xffffffffffffffff")
@@ -490,8 +640,9 @@ def large_group(s):
     s.command(3, vlan(2, port=30, vid=4094))
     s.command(3, bridge(3, vid=4094, group=group_id(4, 4094, 1)))
     send(s, [62], frame(OTHER))
-    send(s, [62], frame(OTHER), 186)
-    send(s, [62], frame(OTHER), 185)
+    send(s, [62], frame(OTHER), 558)
+    send(s, [62], frame(OTHER), 557)
+    send(s, [62], frame(OTHER), 1024)
     send(s, [30], frame(OTHER, tag=4094))
     s.command(8, several(4, 4094, 1, range(62, 0, -1)))
     send(s, [30], frame(OTHER, tag=4094))
@@ -507,7 +658,7 @@ def frames_run():
     s.note("With empty tables every frame is dropped at table 10.")
     s.add("write 8 0x318 0xffffffffffffffff", "read 8 0x318", "read 8 0x310")
     send(s, [1], frame(OTHER, tag=100))
-    for block in [frame_tables, frame_shapes, frame_ports, frame_priorities, large_group]:
+    for block in [frame_tables, frame_shapes, frame_ports, frame_routes, frame_priorities, large_group]:
         block(s)
     return s
 
@@ -574,7 +725,7 @@ def edges():
     s.note("Other words, too many and too few, and calls with a wrong name.")
     s.add("read 4", "read 4 0 0", "read", "Read 4 0", "reads 4 0", " read 4 0", "write 4 0", "write 4 0 0 0", "link 1", "link 1 2", "link 1 0x1",
           "link 1 01", "work", "work 65537", "work 65536 1", "header 65537", "header", "header 65536", "header 0", "frame", "frame 1", "frame 1 -",
-          "frame 1 - 513", "frame 1 - 512", "frame 1 - 186 1", "frame 0x100000001 -", "call 1", "#", "#read 4 0", "-", "peek")
+          "frame 1 - 1025", "frame 1 - 1024", "frame 1 - 558 1", "frame 0x100000001 -", "call 1", "#", "#read 4 0", "-", "peek")
     s.note("A line of 65,535 bytes is taken, one more is not, whatever it begins with.")
     s.add("memory 1048576", "poke 0 " + "ab" * 32764, "poke 0 " + "cd" * 32765, "peek 0 4", "#" * 65535, "#" * 65536, "peek 32760 8", "peek 1048575 1")
     s.note("A smaller memory, and a larger one again: every byte is 0.")

@@ -1,19 +1,20 @@
 #!/usr/bin/env python3
-"""Writes the script of worked_run: worked examples of document 01 and of request 2026-02, each behind a comment that says what it shows. They
-are chosen so that a reader who takes one sentence in another sense gets another outcome (tests/misreadings). worked.py >
+"""Writes the script of worked_run: worked examples of document 01 and of requests 2026-02 and 2026-03, each behind a comment that says what it
+shows. They are chosen so that a reader who takes one sentence in another sense gets another outcome (tests/misreadings). worked.py >
 crates/worked_run/stdin; the outcomes come from tests/model (tests/scripts/store)."""
 import sys
 
 sys.dont_write_bytecode = True
 import make_scripts
-from make_scripts import (Script, be16, bridge, group_id, ingress, interface, le16, le32, le64, listed, payload, send, several, tlv, vlan,
-                          with_length)
+from make_scripts import (IPV4, IPV6, Script, be16, bridge, group_id, ingress, interface, le16, le32, le64, listed, neighbour, payload, route,
+                          routed, send, several, termination, tlv, vlan, with_length)
 
 MEMORY, PORTS = 0x4000, 4
 ALL = 0xFFFFFFFF
 
 # The fields of CMD_INFO: type and width, that of the nest as one member has it.
-WIDTHS = {1: 2, 2: 4, 3: 4, 4: 4, 5: 8, 6: 4, 7: 4, 8: 4, 9: 2, 10: 4, 12: 2, 13: 16, 14: 2, 19: 2, 24: 6, 43: 1}
+WIDTHS = {1: 2, 2: 4, 3: 4, 4: 4, 5: 8, 6: 4, 7: 4, 8: 4, 9: 2, 10: 4, 11: 4, 12: 2, 13: 16, 14: 2, 19: 2, 23: 2, 24: 6, 26: 6, 36: 4, 37: 4,
+          38: 16, 39: 16, 43: 1}
 COMMON = (1, 2, 3, 4, 5, 9)
 
 
@@ -141,7 +142,7 @@ def the_length_faults(s):
     for length in (7, 8):
         s.run(payload(6, []) + with_length(99, length))
         s.tlvs(6, with_length(99, length))
-        s.tlvs(3, tlv(1, le16(20)), with_length(99, length))
+        s.tlvs(3, tlv(1, le16(40)), with_length(99, length))
     s.note("Members: the second of lengths 0, 4, 7, 8, 9 and 12, in an add of a group that is there and a mod of one that is not. Only 12 comes")
     s.note("as far as EEXIST and ENOENT.")
     one, two = le32(group_id(0, 5, 1)), le32(group_id(0, 5, 2))
@@ -272,11 +273,11 @@ def the_regions(s):
         s.run(tlv(1, command) + info)
     s.note("Order for flows: the nest, TBL's form, the table, other fields, then the key.")
     table = {k: v for k, v in ingress(1).items() if k > 1}
-    s.run(tlv(1, le16(3)) + tlv(2, tlv(1, le16(20)) + bytes(4)))
-    s.tlvs(3, tlv(1, le16(20)), tlv(1, le16(20)), *listed(table))
-    s.tlvs(3, tlv(1, le16(20) + b"\0"), *listed(table))
+    s.run(tlv(1, le16(3)) + tlv(2, tlv(1, le16(40)) + bytes(4)))
+    s.tlvs(3, tlv(1, le16(40)), tlv(1, le16(40)), *listed(table))
+    s.tlvs(3, tlv(1, le16(40) + b"\0"), *listed(table))
     s.tlvs(3, *listed(table))
-    s.tlvs(3, tlv(1, le16(20)), tlv(2, b""))
+    s.tlvs(3, tlv(1, le16(40)), tlv(2, b""))
     s.tlvs(3, *listed(ingress(1)))
     s.tlvs(3, *listed(ingress(1) | {9: le16(1)}))
     s.tlvs(4, *listed(ingress(2) | {9: le16(1)}))
@@ -284,12 +285,17 @@ def the_regions(s):
 
 
 def forms():
-    """A command of each form: its name, add and mod (or del and what is added before), its fields and the types it uses."""
+    """A command of each form: its name, add and mod (or del and what is added before), its fields, and the types that it uses or that must not
+    be there."""
     yield "table 0", 3, ingress(70), COMMON + (6, 7)
     yield "table 10", 3, vlan(71, port=2, vid=0, new=9), COMMON + (6, 14, 19)
     yield "table 50", 3, bridge(72, vid=9, mac="020000000001", group=group_id(0, 9, 1)), COMMON + (10, 14, 24)
+    yield "table 20", 3, termination(73, vid=9), COMMON + (6, 14, 23, 24)
+    yield "table 30 for IPv4", 3, route(74, "10.1.2.3/24", group=1), COMMON + (10, 23, 36, 37, 38, 39)
+    yield "table 30 for IPv6", 3, route(75, "2001:db8::1/64", group=1), COMMON + (10, 23, 36, 37, 38, 39)
     yield "flow del", 5, {5: le64(70)}, (5,)
     yield "type 0", 7, interface(9, 1), (8, 10, 43)
+    yield "type 2", 7, neighbour(1, 9, 1), (10, 11, 14, 24, 26)
     yield "type 3", 7, several(3, 9, 1, [1]), (10, 12, 13)
     yield "type 4", 7, several(4, 9, 1, [1]), (10, 12, 13)
     yield "group del", 9, {10: le32(group_id(0, 9, 1))}, (10,)
@@ -323,20 +329,33 @@ def the_unused(s):
 def the_used(s):
     s.fresh()
     s.note("Flow del with the right TBL, with that of another table, with one that is none; and with another PRIORITY.")
-    for more in (tlv(1, le16(0)), tlv(1, le16(10)), tlv(1, le16(20)), tlv(2, le32(9))):
+    for more in (tlv(1, le16(0)), tlv(1, le16(10)), tlv(1, le16(40)), tlv(2, le32(9))):
         s.tlvs(3, *listed(ingress(70)))
         s.tlvs(5, more, tlv(5, le64(70)))
     s.note("The times may be missing. One that comes twice, or has another width, is EINVAL in each table.")
-    flows = [ingress(70), vlan(71, port=2, vid=9), bridge(72, vid=9)]
+    flows = [ingress(70), vlan(71, port=2, vid=9), bridge(72, vid=9), termination(73), route(75, "10.1.2.3/24"), route(76, "2001:db8::1/64")]
     for fields in flows:
         for times in ([tlv(3, le32(5)), tlv(3, le32(5))], [tlv(4, le32(5)), tlv(4, le32(5))], [tlv(3, le16(5))], [tlv(4, le16(5))],
                       [tlv(3, le32(5)), tlv(4, le32(5))]):
             s.tlvs(3, *listed(fields), *times)
         s.tlvs(4, *listed(fields))
     s.note("What is not called optional is required, in each form: one field left out after the other.")
-    for command, fields in [(3, ingress(79)), (3, vlan(79, port=2, vid=9)), (3, bridge(79, vid=9)), (7, interface(1, 0)), (7, several(3, 1, 1, [1]))]:
+    for command, fields in [(3, ingress(79)), (3, vlan(79, port=2, vid=9)), (3, bridge(79, vid=9)), (3, termination(79)),
+                            (3, route(79, "10.1.2.3/24")), (3, route(79, "2001:db8::1/64")), (7, interface(1, 0)), (7, neighbour(1, 1, 0)),
+                            (7, several(3, 1, 1, [1]))]:
         for kind in fields:
             s.tlvs(command, *[tlv(k, v) for k, v in fields.items() if k != kind])
+    s.note("A field of the new forms that comes twice, or is a byte wider, is EINVAL.")
+    for command, fields in [(3, termination(79)), (3, route(79, "10.1.2.3/24", group=1)), (3, route(79, "2001:db8::1/64", group=1)),
+                            (7, neighbour(1, 1, 0))]:
+        for kind, value in fields.items():
+            s.tlvs(command, *listed(fields), tlv(kind, value))
+            s.tlvs(command, *[tlv(k, v + b"\0" * (k == kind)) for k, v in fields.items()])
+    s.note("The address and mask of the other EtherType: once, of another width, twice. Each is EINVAL.")
+    for to, others in (("10.1.2.3/24", (38, 39)), ("2001:db8::1/64", (36, 37))):
+        for kind in others:
+            for more in ([bytes(WIDTHS[kind])], [bytes(20 - WIDTHS[kind])], [bytes(WIDTHS[kind])] * 2):
+                s.tlvs(3, *listed(route(79, to)), *[tlv(kind, value) for value in more])
     s.note("Flow del: its cookie missing, of 4 and of 9 bytes, twice.")
     cookie = tlv(5, le64(70))
     for key in ([], [tlv(5, le32(70))], [tlv(5, le64(70) + b"\0")], [cookie, cookie]):
@@ -366,10 +385,10 @@ def the_values(s):
     s.note("Table 0 goes to 10 or 0: not to 20, 50 or 60. Any IN_PPORT and any mask.")
     s.changed(3, ingress(80), [(9, le16(n)) for n in (20, 50, 60)] + [(7, le32(0))])
     s.changed(4, ingress(80), [(6, le32(ALL)), (9, le16(0)), (6, le32(0))])
-    s.note("Table 10: IN_PPORT 0, 1, 4, 5 and 0x10001 of 4 ports; VLAN_ID 1, 4094, 4095, 0x1064 and 0; GOTO_TBL 10, 50, 60.")
+    s.note("Table 10: IN_PPORT 0, 1, 4, 5 and 0x10001 of 4 ports; VLAN_ID 1, 4094, 4095, 0x1064 and 0; GOTO_TBL 10, 30, 50, 60.")
     tagged = vlan(81, port=1, vid=100)
     s.changed(3, tagged, [(6, le32(n)) for n in (0, 5, 0x10001)] + [(14, be16(n)) for n in (4095, 0x1064, 0)])
-    s.changed(3, tagged, [(9, le16(n)) for n in (10, 50, 60)] + [(14, be16(1))])
+    s.changed(3, tagged, [(9, le16(n)) for n in (10, 30, 50, 60)] + [(14, be16(1))])
     s.changed(4, tagged, [(14, be16(4094)), (6, le32(4)), (9, le16(0))])
     s.note("NEW_VLAN_ID is there exactly if VLAN_ID is 0, and 1 to 4094.")
     s.changed(3, vlan(82, port=1, vid=0, new=1), [(19, None), (19, be16(0)), (19, be16(4095)), (14, be16(100)), (19, be16(1))])
@@ -379,11 +398,11 @@ def the_values(s):
     s.changed(4, bridge(83), [(14, be16(4094)), (9, le16(0))])
     s.note("A flow's group has its VLAN; type 0 for an even first byte (its last byte is odd), 3 or 4 for an odd one, 4 without DST_MAC.")
     for mac in ("020000000001", "030000000002", None):
-        for kind in (0, 3, 4, 8):
+        for kind in (0, 2, 3, 4, 8):
             s.tlvs(4, *listed(bridge(83, vid=9, mac=mac, group=group_id(kind, 9, 77))))
         s.tlvs(4, *listed(bridge(83, vid=9, mac=mac, group=group_id(4 if mac is None else int(mac[1]) % 2 * 3, 10, 1))))
-    s.note("Group IDs: types 0, 3 and 4 alone, not 1, 2, 5, 8, 11, 12; VLAN 1 to 4094.")
-    for kind in (1, 2, 5, 8, 11, 12):
+    s.note("Group IDs: types 0, 2, 3 and 4 alone, not 1, 5, 8, 11, 12; VLAN 1 to 4094.")
+    for kind in (1, 5, 8, 11, 12):
         s.tlvs(7, *listed(interface(9, 1) | several(3, 9, 1, [1]) | {10: le32(group_id(kind, 9, 1))}))
     for vid in (0, 4095, 1, 4094):
         s.tlvs(7, *listed(interface(vid, 1)))
@@ -402,7 +421,7 @@ def the_values(s):
     one, two, three = (le32(group_id(0, 1, n)) for n in (1, 2, 3))
     for kinds, values in (((1, 99, 2), (one, three, two)), ((1, 2, 99), (one, two, three)), ((2, 1), (one, two)), ((0, 1), (one, two)),
                           ((1, 2), (one, one)), ((1, 2, 3), (one, two, one)), ((1, 2, 3, 4), (one, two, three, two)),
-                          ((1, 2), (one, le32(group_id(3, 1, 2)))),
+                          ((1, 2), (one, le32(group_id(3, 1, 2)))), ((1, 2), (one, le32(group_id(2, 1, 2)))),
                           ((1, 2), (one, le32(group_id(0, 2, 2)))), ((1, 2), (one, two + b"\0")), ((1, 2), (one, two[:3])), ((1, 2), (two, one))):
         count = len(values) - (99 in kinds)
         nest = b"".join(tlv(k, v) for k, v in zip(kinds, values))
@@ -449,15 +468,15 @@ def the_frame(s):
     send(s, [1, 2], frame(OTHER, tag=0xF064))
     for tag in ("91000064", "91000065", "88a80064", "81010064", "00810064", "81006400"):
         send(s, [1, 2], bytes.fromhex(OTHER + UNICAST + tag) + bytes(4))
-    s.note("Lengths: 13 no, 14 untagged, 17 tagged no, 18 tagged. A list of 186 is long enough, of 185 not.")
+    s.note("Lengths: 13 no, 14 untagged, 17 tagged no, 18 tagged. A list of 558 is long enough, of 557 not.")
     for data in (frame(OTHER, length=13), frame(OTHER, length=14), frame(OTHER, tag=100, length=17), frame(OTHER, tag=100, length=18)):
         send(s, [1], data)
-    send(s, [1], frame(OTHER), 186)
-    send(s, [1], frame(OTHER), 185)
+    for length in (558, 557, 186):
+        send(s, [1], frame(OTHER), length)
     s.note("Faults at once: port, then frame, then list.")
-    send(s, [5], frame(OTHER, length=13), 185)
-    send(s, [0], frame(OTHER), 185)
-    send(s, [1], frame(OTHER, length=13), 185)
+    send(s, [5], frame(OTHER, length=13), 557)
+    send(s, [0], frame(OTHER), 557)
+    send(s, [1], frame(OTHER, length=13), 557)
     s.note("A port that is down, or not enabled, has no copies and sends none.")
     s.add("link 3 0")
     send(s, [1], frame(OTHER))
@@ -524,10 +543,200 @@ def the_flows(s):
     s.add("header 5", "header 6", "header 7")
 
 
+def the_stops(s):
+    s.fresh()
+    s.note("Request 2026-03. Table 20: IN_PPORT 0, 5 and 0x10001 of 4 ports; VLAN_ID 0 and 4095; EtherTypes other than 0x0800 and 0x86DD;")
+    s.note("GOTO_TBL other than 30. Each is EINVAL.")
+    stop = termination(90)
+    s.changed(3, stop, [(6, le32(n)) for n in (0, 5, 0x10001)] + [(14, be16(n)) for n in (0, 4095)] +
+              [(23, be16(n)) for n in (0x0806, 0x8847, 0x0008, 0)] + [(9, le16(n)) for n in (0, 20, 40, 50, 60)])
+    s.note("IN_PPORT 1 and 4, VLAN_ID 1 and 4094, both EtherTypes, and any MAC: OK.")
+    s.tlvs(3, *listed(stop))
+    s.changed(4, stop, [(6, le32(4)), (14, be16(1)), (14, be16(4094)), (23, be16(IPV6)), (24, bytes(6)), (24, b"\xff" * 6)])
+    s.note("The guide's masks, of the port, the VLAN and the MAC, are not listed, and nor is OUT_PPORT: skipped, whatever they say.")
+    s.tlvs(4, *listed(stop), tlv(7, bytes(4)), tlv(15, bytes(2)), tlv(25, bytes(6)), tlv(8, le32(3)))
+    s.note("TBL 40 and 60 are no tables.")
+    for table in (40, 60):
+        s.changed(3, stop, [(1, le16(table))])
+
+
+def the_routes(s):
+    s.fresh()
+    s.note("Table 30. Masks of 0, 1, 8, 25, 31 and 32 ones; then masks that are no prefixes: EINVAL.")
+    for ones in (0, 1, 8, 25, 31, 32):
+        s.tlvs(4 if ones else 3, *listed(route(91, f"10.1.2.3/{ones}")))
+    four, six = route(91, "10.1.2.3/24"), route(91, "2001:db8::1/64")
+    s.changed(4, four, [(37, bytes.fromhex(mask)) for mask in ("00ffffff", "ffffff01", "ff00ff00", "fffffffd", "7fffffff", "00000001")])
+    s.note("The same for IPv6: 0, 1, 33, 127 and 128 ones; a bit missing, or one too many, in a byte at the front, in the middle and at the end.")
+    for ones in (0, 1, 33, 127, 128):
+        s.tlvs(4, *listed(route(91, f"2001:db8::1/{ones}")))
+    for at, bits in ((0, 0x7F), (6, 0xFE), (8, 0x01), (12, 0xFF), (15, 0x01)):
+        s.changed(4, six, [(39, six[39][:at] + bytes([bits]) + six[39][at + 1:])])
+    s.note("Unicast, asked of the address as it is given: first bytes 0, 127 and 223 are OK, 224, 239, 240 and 255 are not, 224.0.0.0/0 neither.")
+    for to in ("0.0.0.0/0", "0.1.2.3/24", "127.0.0.1/32", "223.255.255.255/32", "224.0.0.0/32", "224.0.0.0/0", "239.1.2.3/32", "240.0.0.1/32",
+               "255.255.255.255/32"):
+        s.tlvs(4, *listed(route(91, to)))
+    s.note("Of IPv6 only FF is not.")
+    for to in ("::/0", "::1/128", "e000::1/64", "fe80::1/10", "ff02::1/128", "ff00::/0"):
+        s.tlvs(4, *listed(route(91, to)))
+    s.note("GOTO_TBL 60 or 0. GROUP_ID of type 2 and any index, of a group that is not there; not 0, nor of types 0, 1, 3, 4.")
+    s.changed(4, four, [(9, le16(n)) for n in (10, 20, 30, 50, 0)])
+    for index in (0, 0x10000, 0x1000000, 0xFFFFFFF):
+        s.tlvs(4, *listed(route(91, "10.1.2.3/24", group=index)))
+    s.changed(4, four, [(10, le32(n)) for n in (0, group_id(0, 5, 1), group_id(1, 5, 1), group_id(3, 5, 1), group_id(4, 5, 1))])
+    s.note("The pair is that of ETHERTYPE, which may be no other: with that of the other EtherType, or with both, EINVAL.")
+    s.changed(4, four, [(23, be16(n)) for n in (IPV6, 0x0806, 0x8847, 0x0008)])
+    s.changed(4, six, [(23, be16(IPV4))])
+    s.tlvs(4, *listed(four | six))
+
+
+def the_neighbours(s):
+    s.fresh()
+    s.note("Groups of type 2: any index, and no VLAN in the ID. The lower group need not be there, and its low bits may be no port.")
+    for index in (0, 1, 0x10000, 0xFFFFFFF):
+        s.tlvs(7, *listed(neighbour(index, 9, 1)))
+        s.tlvs(9, tlv(10, le32(2 << 28 | index)))
+        s.tlvs(9, tlv(10, le32(2 << 28 | index)))
+    base = neighbour(7, 9, 1)
+    s.tlvs(7, *listed(base))
+    for low in (0, 5, 63, 0xFFFF):
+        s.tlvs(8, *listed(neighbour(7, 9, low)))
+    s.note("The lower group has type 0 and VLAN_ID, which is 1 to 4094.")
+    s.changed(8, base, [(11, le32(group_id(kind, 9, 1))) for kind in (1, 2, 3, 4, 8)] + [(11, le32(group_id(0, 10, 1))), (14, be16(10))])
+    for vid in (0, 4095, 1, 4094):
+        s.tlvs(8, *listed(neighbour(7, vid, 1)))
+    s.note("Any MACs, zeros and odd ones, and the same twice.")
+    s.changed(8, base, [(24, bytes(6)), (26, bytes(6)), (24, b"\xff" * 6), (26, b"\xff" * 6), (24, base[26])])
+    s.note("Its ID in a list of members, and in table 50: EINVAL.")
+    s.tlvs(7, tlv(10, le32(group_id(4, 9, 1))), tlv(12, le16(1)), tlv(13, tlv(1, le32(group_id(2, 9, 7)))))
+    s.tlvs(3, *listed(bridge(92, vid=9, mac=UNICAST, group=group_id(2, 9, 7))))
+    s.note("A lower group that is deleted leaves it: it can be deleted after it.")
+    s.tlvs(7, *listed(interface(9, 1)))
+    s.tlvs(9, tlv(10, le32(group_id(0, 9, 1))))
+    s.tlvs(9, tlv(10, base[10]))
+
+
+ROUTER, SENT = "029900000001", "10.1.2.3"
+
+
+def the_routed(s):
+    s.fresh(up=0b11110, enabled=0b11110)
+    s.note("Ports 1 and 2 in VLAN 100, port 1 in VLAN 101 too; what is bridged goes to the host. Routed are, at port 1, frames of VLAN 100 to")
+    s.note(f"{ROUTER}. Behind the ports of VLAN 300 there is a neighbour each, 0 behind the host; POP_VLAN at 3.")
+    for vid in (100, 101):
+        s.command(7, interface(vid, 0))
+        s.command(7, several(4, vid, 1, [0]))
+        s.command(3, bridge(500 + vid, vid=vid, group=group_id(4, vid, 1)))
+    s.command(3, vlan(0x10, port=1, vid=0, new=100))
+    s.command(3, vlan(0x11, port=1, vid=100))
+    s.command(3, vlan(0x12, port=2, vid=100))
+    s.command(3, vlan(0x13, port=1, vid=101))
+    for port in range(5):
+        s.command(7, interface(300, port, int(port == 3)))
+        s.command(7, neighbour(port, 300, port, "020102030405", f"0a0b0c0d0e{port:02x}"))
+    s.command(3, termination(0x20))
+    s.note("No route yet: what is routed is dropped. Bridged: at port 2, of VLAN 101, to another MAC or from that one, of another EtherType.")
+    for data in (routed(SENT), routed(SENT, tag=100), routed(SENT, length=0)):
+        send(s, [1], data)
+    send(s, [2], routed(SENT, tag=100))
+    for data in (routed(SENT, tag=101), routed(SENT, mac="029900000002"), routed(SENT, mac=OTHER, source=ROUTER), routed("2001:db8::1"),
+                 routed(SENT, ethertype=0x0806), routed(SENT, tag=100, ethertype=0x0806), routed(SENT, ethertype=0x0008)):
+        send(s, [1], data)
+    s.note("A tag behind the tag is no EtherType that is routed: bridged, though 08 00 stands behind it.")
+    double = routed(SENT, tag=100)
+    send(s, [1], double[:16] + b"\x81\x00\x00\x64" + double[16:])
+    s.note("A route to all: to the neighbour behind port 2. Untagged and tagged, with any bits above the VLAN; to a multicast address; whatever")
+    s.note("version, header length and TTL the frame has. One of IPv6 is still bridged, as table 20 has no flow for it.")
+    s.command(3, route(0x30, "0.0.0.0/0", group=2))
+    for data in (routed(SENT), routed(SENT, tag=100), routed(SENT, tag=0xF064), routed("239.1.2.3"), routed("2001:db8::1")):
+        send(s, [1], data)
+    for first, ttl in ((0x45, 1), (0x45, 0), (0x46, 64), (0x60, 64), (0x00, 64)):
+        data = bytearray(routed(SENT))
+        data[14], data[22] = first, ttl
+        send(s, [1], bytes(data))
+    s.note("Bytes after the EtherType: 18 and 19 are dropped, 20 and 21 not, with and without a tag.")
+    for length in (18, 19, 20, 21):
+        for tag in (None, 100):
+            send(s, [1], routed(SENT, tag=tag, length=length))
+    s.note("IPv6 at port 1: no route of its own, the one for IPv4 is none. Then ::/0, with 20, 38, 39, 40 and 41 bytes.")
+    s.command(3, termination(0x21, ethertype=IPV6))
+    send(s, [1], routed("2001:db8::1"))
+    s.command(3, route(0x31, "::/0", group=4))
+    for length in (20, 38, 39, 40, 41):
+        for tag in (None, 100):
+            send(s, [1], routed("2001:db8::1", tag=tag, length=length))
+    data = bytearray(routed("ff02::1"))
+    data[14], data[21] = 0x45, 1
+    send(s, [1], bytes(data))
+
+
+def the_prefixes(s):
+    s.note("The longest prefix decides, whatever PRIORITY says: /8, /16, /24, /25 and /32, added from both ends, with priorities that fall.")
+    for cookie, to, priority, group in ((0x40, "10.0.0.0/8", 50, 0), (0x44, "10.1.2.3/32", 10, 4), (0x41, "10.1.0.0/16", 40, 1),
+                                        (0x43, "10.1.2.0/25", 20, 3), (0x42, "10.1.2.0/24", 30, 0)):
+        s.command(3, route(cookie, to, priority=priority, group=group))
+        for address in ("10.1.2.3", "10.1.2.4", "10.1.2.200", "10.1.3.3", "10.2.2.3", "11.1.2.3"):
+            send(s, [1], routed(address))
+    s.note("The frame's address is compared, not its sender's; both sides under the mask: 10.1.2.77/25 is the same prefix as 10.1.2.0/25.")
+    data = bytearray(routed("11.1.2.3"))
+    data[26:30] = bytes([10, 1, 2, 3])
+    send(s, [1], bytes(data))
+    s.command(4, route(0x43, "10.1.2.77/25", priority=20, group=3))
+    send(s, [1], routed("10.1.2.4"))
+    s.note("Equal prefixes: the highest PRIORITY, unsigned, then the lower cookie, whichever was added first.")
+    for cookie, priority, group in ((0x46, 20, 1), (0x3F, 20, 4), (0x47, 21, 2), (0x48, 0x80000000, 0)):
+        s.command(3, route(cookie, "10.1.2.99/25", priority=priority, group=group))
+        send(s, [1], routed("10.1.2.4"))
+    for cookie in (0x46, 0x3F, 0x47, 0x48):
+        s.command(5, {5: le64(cookie)})
+    s.note("IPv6: /128, /64, /33 and /32, with priorities that fall.")
+    for cookie, to, priority, group in ((0x53, "2001:db8::/32", 9, 1), (0x52, "2001:db8::/33", 8, 2), (0x51, "2001:db8::/64", 7, 3),
+                                        (0x50, "2001:db8::1/128", 6, 0)):
+        s.command(3, route(cookie, to, priority=priority, group=group))
+        for address in ("2001:db8::1", "2001:db8::2", "2001:db8:1::1", "2001:db8:8000::1", "2001:db9::1"):
+            send(s, [1], routed(address))
+    s.note("The route that decides gives nothing, though a shorter one would: GOTO_TBL 0, no group, a missing group. Mod replaces all but the key.")
+    for fields in (route(0x44, "10.1.2.3/32", group=4, goto=0), route(0x44, "10.1.2.3/32"), route(0x44, "10.1.2.3/32", group=99),
+                   route(0x44, "10.1.2.4/32", group=4), route(0x44, "10.1.2.3/32", group=4)):
+        s.command(4, fields)
+        for address in ("10.1.2.3", "10.1.2.4"):
+            send(s, [1], routed(address))
+
+
+def the_copies(s):
+    s.note("A copy of a routed frame: port, VLAN and POP_VLAN, the new source and destination MAC. To the host, to 3 (POP_VLAN 1), by port 1 where")
+    s.note("it came in; not to a port that is down or not enabled.")
+    for group in (0, 1, 2, 3, 4):
+        s.command(4, route(0x44, "10.1.2.3/32", group=group))
+        send(s, [1], routed(SENT))
+        send(s, [1], routed(SENT, tag=100))
+    s.add("link 4 0")
+    send(s, [1], routed(SENT))
+    s.add("link 4 1", "write 8 0x318 0x0e")
+    send(s, [1], routed(SENT))
+    s.add("write 8 0x318 0x1e")
+    s.note("Group mod replaces the lower group with its VLAN, and each MAC; a lower group that is missing gives no copy, also where a shorter")
+    s.note("prefix has one, and comes back.")
+    for fields in (neighbour(4, 100, 0, "020102030405", "0a0b0c0d0e04"), neighbour(4, 300, 4, "020102030406", "0a0b0c0d0e04"),
+                   neighbour(4, 300, 4, "020102030406", "0a0b0c0d0e05"), neighbour(4, 300, 2, "020102030406", "0a0b0c0d0e05")):
+        s.command(8, fields)
+        send(s, [1], routed(SENT))
+    s.command(9, {10: le32(group_id(0, 300, 2))})
+    send(s, [1], routed(SENT))
+    s.command(7, interface(300, 2, 1))
+    send(s, [1], routed(SENT))
+    s.note("The neighbour is deleted, then the flow of table 20: the frame is bridged, and its copy has no MACs.")
+    s.command(9, {10: le32(2 << 28 | 4)})
+    send(s, [1], routed(SENT))
+    s.command(5, {5: le64(0x20)})
+    send(s, [1], routed(SENT))
+
+
 if __name__ == "__main__":
     script = Worked()
     for part in (the_table, the_payload, the_lengths, the_length_faults, the_registers, the_slot, the_regions, the_unused, the_used, the_values,
-                 the_frame, the_flows):
+                 the_frame, the_flows, the_stops, the_routes, the_neighbours, the_routed, the_prefixes, the_copies):
         part(script)
-    print("# Worked examples of document 01 and request 2026-02 (tests/scripts/worked.py). A record begins with 0x8000 plus the status.")
+    print("# Worked examples of document 01 and requests 2026-02 and 2026-03 (tests/scripts/worked.py). A record begins with 0x8000 plus the")
+    print("# status.")
     print("\n".join(script.lines))

@@ -3,7 +3,8 @@
 The outcomes come from the second implementation; each case has its list written out by hand, too, and the two must agree.
 
 A question is n (8 bytes), the room's length (4), the journal's length (4) and the journal, as `model undo-all` reads them. A payload is its
-TLVs as (type, value); its bytes are those of the journal's version, and in a list those of the device (version 2)."""
+TLVs as (type, value); its bytes are those of the journal's version, and in a list those of the device (version 3)."""
+import ipaddress
 import pathlib
 import struct
 import subprocess
@@ -12,7 +13,7 @@ import sys
 sys.dont_write_bytecode = True
 ROOT = pathlib.Path(__file__).resolve().parents[2]
 sys.path.append(str(ROOT / "tests"))
-from tlvs import in_two_meanings, of_version, region
+from tlvs import VERSION, in_two_meanings, of_version, region
 
 STORED = ROOT / "crates/undo_run"
 OK, ENOENT, ENXIO, ENOMEM, EEXIST, EINVAL, EMSGSIZE, ENOTSUP = 0, 2, 6, 12, 17, 22, 90, 95
@@ -57,6 +58,18 @@ def flow50(action, cookie, vlan=5, mac=None, group=None, **rest):
     return flow(action, 50, cookie, [(10, or_none(4, group)), (14, be(2, vlan)), (24, mac)], **rest)
 
 
+def flow20(action, cookie, port=1, ethertype=0x0800, mac=bytes.fromhex("029900000001"), vlan=5, **rest):
+    return flow(action, 20, cookie, [(6, le(4, port)), (14, be(2, vlan)), (23, be(2, ethertype)), (24, mac)], goto=30, **rest)
+
+
+def flow30(action, cookie, to="10.1.2.3/24", group=None, **rest):
+    """A route to a prefix, the address as it stands."""
+    where = ipaddress.ip_interface(to)
+    ethertype, first = {4: (0x0800, 36), 6: (0x86DD, 38)}[where.version]
+    pair = [(first, where.ip.packed), (first + 1, where.network.netmask.packed)]
+    return flow(action, 30, cookie, [(10, or_none(4, group)), (23, be(2, ethertype)), *pair], **rest)
+
+
 def flow_del(cookie):
     return payload(5, [(5, le(8, cookie))])
 
@@ -74,6 +87,19 @@ def list_group(action, kind, vlan, index, ports):
     return payload(7 + action, [(10, le(4, gid(kind, vlan, index))), (12, le(2, len(ports))), (13, members)])
 
 
+def route_group(action, index, vlan=5, port=2, source=bytes.fromhex("029900000002"), destination=bytes.fromhex("021122334455")):
+    return payload(7 + action, [(10, le(4, rid(index))), (11, le(4, gid(0, vlan, port))), (14, be(2, vlan)), (24, destination), (26, source)])
+
+
+def rid(index):
+    """A group ID of type 2."""
+    return 2 << 28 | index
+
+
+def route_del(index):
+    return payload(9, [(10, le(4, rid(index)))])
+
+
 def group_del(kind, vlan, low):
     return payload(9, [(10, le(4, gid(kind, vlan, low)))])
 
@@ -85,7 +111,7 @@ def record(status, body, slot, version):
     return struct.pack("<HHH", 0x8000 | status, len(data), slot) + data
 
 
-def journal(*bodies, ports=4, version=2):
+def journal(*bodies, ports=4, version=VERSION):
     """Records that are OK where a payload stands alone; others are (status, payload)."""
     pairs = [body if isinstance(body, tuple) else (OK, body) for body in bodies]
     header = b"RKT" + le(2, version) + bytes([ports])
@@ -107,10 +133,11 @@ def case(name, trail, n, expected, room=None):
     CASES.append((name, trail, n, room, expected))
 
 
-def in_both(name, bodies, n, expected, **rest):
-    """The same records in a journal of either version: one list."""
+def in_all(name, bodies, n, expected, older=(1, 2), **rest):
+    """The same records in a journal of each version: one list."""
     case(name, journal(*bodies, **rest), n, expected)
-    case(f"{name}, version 1", journal(*bodies, version=1, **rest), n, expected)
+    for version in older:
+        case(f"{name}, version {version}", journal(*bodies, version=version, **rest), n, expected)
 
 
 EXAMPLE = port_group(ADD, 5, 2, pop=1)  # the payload of document 01
@@ -143,8 +170,8 @@ def refusals():
     twice = journal(flow0(ADD, 1), flow0(ADD, 1))
     for what, trail, told in (("cut header", good[:5], "refused 10 line 0"),
                               ("mark", b"RKX" + good[3:], "refused 11 line 0"),
-                              ("version", b"RKT\3" + good[4:], "refused 12 line 0"),
-                              ("port count", b"RKT\2\0\0" + good[6:], "refused 13 line 0"),
+                              ("version", b"RKT\4" + good[4:], "refused 12 line 0"),
+                              ("port count", b"RKT\3\0\0" + good[6:], "refused 13 line 0"),
                               ("disagrees in line 2", twice, "refused 14 line 2"),
                               ("cut in line 2", good[:-1], "refused 10 line 2"),
                               ("cut behind line 2", good + b"\0", "refused 10 line 3")):
@@ -177,7 +204,7 @@ def order():
     back = [flow_del(15), flow_del(35), group_del(0, 5, 1), group_del(0, 5, 3),
             flow10(MOD, 20, priority=2), flow0(MOD, 40, port=2), port_group(MOD, 5, 2), list_group(MOD, 4, 5, 1, [1]),
             flow0(ADD, 10, port=3), flow0(ADD, 30, priority=1), port_group(ADD, 5, 4), list_group(ADD, 3, 5, 1, [1])]
-    in_both("six runs", [*evening, *night], len(evening), back)
+    in_all("six runs", [*evening, *night], len(evening), back)
     # Cookies whose order is another one by sign, by halves, by bytes, by table, by priority and as they were added.
     cookies = [2**63, 0x100, 2**64 - 1, 2, 2**32, 0x201]
     adds = [flow0(ADD, cookies[0], priority=3), flow50(ADD, cookies[1], priority=9), flow0(ADD, cookies[2]), flow10(ADD, cookies[3]),
@@ -251,8 +278,8 @@ def zeros():
 def edges():
     """The longest payload, and tables that are full on both sides."""
     ports = [62, *range(1, 62)]
-    in_both("62 members", [list_group(ADD, 4, 4094, 0xFFFF, ports), group_del(4, 4094, 0xFFFF)], 1,
-            [list_group(ADD, 4, 4094, 0xFFFF, ports)], ports=62)
+    in_all("62 members", [list_group(ADD, 4, 4094, 0xFFFF, ports), group_del(4, 4094, 0xFFFF)], 1,
+            [list_group(ADD, 4, 4094, 0xFFFF, ports)], older=(1,), ports=62)
     flows = [flow0(ADD, cookie, hard=None, idle=None) for cookie in range(256)]
     groups = [port_group(ADD, vlan, 1) for vlan in range(1, 129)]
     night = [flow_del(0), flow0(ADD, 256), (ENOMEM, flow0(ADD, 0)), group_del(0, 128, 1), port_group(ADD, 129, 1), (ENOMEM, groups[127])]
@@ -265,7 +292,7 @@ def example():
     import night
     evening, later = ([payload for _, payload in part] for part in (night.EVENING, night.NIGHT))
     told = [*evening, *later[:-1], (EEXIST, later[-1])]
-    in_both("the night", told, len(evening), night.BACK)
+    in_all("the night", told, len(evening), night.BACK)
     case("the morning", journal(*told, *night.BACK), len(evening), [], 0)
 
 
@@ -286,25 +313,82 @@ def version_1():
     case("version 1, a room of 83", two, 0, "refused 16", 83)
     case("version 1, cut", two[:-1], 1, "refused 10 line 2")
     case("version 1, disagrees", journal(flow0(ADD, 1), flow0(ADD, 1), version=1), 1, "refused 14 line 2")
-    for version in (0, 3, 0x0102, 0x0201):
-        case(f"version {version}", journal(version=version), 0, "refused 12 line 0", 0)
+    for version in (0, 4, 0x0102, 0x0201, 0x0103):
+        case(f"version {version}", b"RKT" + le(2, version) + b"\4", 0, "refused 12 line 0", 0)
+
+
+def routes():
+    """Tables 20 and 30 and type 2: the order, one field after the other, and journals of older versions, which have none of it."""
+    evening = [flow30(ADD, 30, "10.1.2.3/32", rid(7)), flow20(ADD, 20), flow30(ADD, 25, "2001:db8::1/64"), flow20(ADD, 40, port=2),
+               flow0(ADD, 33), port_group(ADD, 5, 2), route_group(ADD, 7), route_group(ADD, 0xFFFFFFF), list_group(ADD, 3, 5, 1, [1]),
+               route_group(ADD, 1), list_group(ADD, 4, 5, 1, [1])]
+    night = [flow_del(30), flow20(MOD, 20, port=3), flow30(MOD, 25, "2001:db8::1/64", rid(7)), flow_del(40), route_group(MOD, 7, port=3),
+             route_del(0xFFFFFFF), group_del(3, 5, 1), flow30(ADD, 22, "0.0.0.0/0"), flow20(ADD, 31), flow30(ADD, 23, "10.0.0.0/8"),
+             route_group(ADD, 9), port_group(ADD, 5, 1), list_group(ADD, 4, 5, 2, [1]), group_del(0, 5, 2)]
+    back = [flow_del(22), flow_del(23), flow_del(31), group_del(0, 5, 1), route_del(9), group_del(4, 5, 2),
+            flow20(MOD, 20), flow30(MOD, 25, "2001:db8::1/64"), route_group(MOD, 7),
+            flow30(ADD, 30, "10.1.2.3/32", rid(7)), flow20(ADD, 40, port=2), port_group(ADD, 5, 2), route_group(ADD, 0xFFFFFFF),
+            list_group(ADD, 3, 5, 1, [1])]
+    case("six runs with routes", journal(*evening, *night), len(evening), back)
+    one_route_field()
+    # Zeros and all ones stand like others.
+    zeros = [flow30(ADD, 0, "0.0.0.0/0"), flow30(ADD, 1, "::/0"), flow20(ADD, 2, mac=bytes(6)),
+             route_group(ADD, 0, source=bytes(6), destination=bytes(6))]
+    ones = [flow30(ADD, 3, "223.255.255.255/32", rid(0xFFFFFFF)), flow30(ADD, 4, "fe80::1/128")]
+    gone = [*map(flow_del, range(5)), route_del(0)]
+    case("routes of zeros and of ones added", journal(*zeros, *ones, *gone), 6, [*zeros[:3], *ones, zeros[3]])
+    case("routes of zeros and of ones deleted", journal(*zeros, *ones), 0, gone)
+    there = [route_group(ADD, 1), flow30(ADD, 1, "10.1.2.3/24"), route_group(MOD, 1, port=4), flow30(MOD, 1, "10.1.2.4/24"), route_group(MOD, 1),
+             flow30(MOD, 1, "10.1.2.3/24"), flow20(ADD, 2), flow_del(2), route_group(ADD, 2), route_del(2)]
+    case("routes there and back", journal(*there), 2, [], 0)
+    # In versions 1 and 2 they were refused, and are not there.
+    refused = [(ENOTSUP, flow20(ADD, 1)), (ENOTSUP, flow30(ADD, 2)), (ENOTSUP, flow30(ADD, 3, "2001:db8::1/64")), (EINVAL, route_group(ADD, 1)),
+               (EINVAL, route_del(1)), (ENOTSUP, flow20(MOD, 9))]
+    for version in (1, 2):
+        case(f"routes refused, version {version}", journal(flow0(ADD, 9), *refused, flow0(ADD, 1), version=version), 1, [flow_del(1)])
+        case(f"routes taken, version {version}", journal(flow20(ADD, 1), version=version), 0, "refused 14 line 1")
+        case(f"type 2 taken, version {version}", journal(flow0(ADD, 1), route_group(ADD, 1), version=version), 0, "refused 14 line 2")
+    case("routes refused, version 3", journal(flow0(ADD, 9), refused[0]), 0, "refused 14 line 2")
+
+
+def one_route_field():
+    def f20(**rest):
+        return lambda action: flow20(action, 7, **rest)
+
+    def f30(to="10.1.2.3/24", group=None, **rest):
+        return lambda action: flow30(action, 7, to, group, **rest)
+
+    def near(**rest):
+        return lambda action: route_group(action, 0x1234567, **rest)
+
+    changes("table 20", (f20(port=3), f20()), (f20(), f20(ethertype=0x86DD)), (f20(ethertype=0x86DD), f20()), (f20(mac=EVEN), f20()),
+            (f20(vlan=6), f20()), (f20(hard=1), f20()), (f20(priority=0x01020304), f20()))
+    changes("table 30", (f30("10.1.2.4/24"), f30()), (f30("10.1.2.3/25"), f30()), (f30("10.2.2.3/24"), f30()), (f30(group=rid(1)), f30()),
+            (f30(), f30(group=rid(1))), (f30(group=rid(1)), f30(group=rid(0x1000001))), (f30(goto=60), f30()),
+            (f30("2001:db8::1/64"), f30("2001:db8::2/64")), (f30("2001:db8::1/64"), f30("2001:db8::1/65")), (f30("2001:db8::1/64"), f30()),
+            (f30(), f30("2001:db8::1/64")), (f30("2001:db8::1/33", rid(5), goto=60), f30("2001:db8::1/33", rid(6), goto=60)))
+    changes("another table, routes", (lambda action: flow0(action, 7), f20()), (f20(), f30()), (f30(), lambda action: flow50(action, 7)))
+    changes("type 2", (near(), near(port=3)), (near(vlan=6), near()), (near(source=OTHER), near()), (near(destination=OTHER), near()),
+            (near(source=bytes(6)), near()))
 
 
 def other_meaning():
     """Payloads with the lengths of the other version are ill formed; and some bytes are one command in one version and one in the other."""
-    for version, other in ((1, 2), (2, 1)):
+    for version, other in ((1, 2), (2, 1), (3, 1)):
         ill = of_version(flow0(ADD, 1), other)
         case(f"lengths of version {other} in version {version}", journal(flow0(ADD, 2), (EINVAL, ill), version=version), 0, [flow_del(2)])
         case(f"the same as OK, in version {version}", journal(flow0(ADD, 2), ill, version=version), 1, "refused 14 line 2")
     both = in_two_meanings(flow0(ADD, 7), EXAMPLE)
     case("two meanings, version 1, added", journal(both, version=1), 0, [flow_del(7)])
-    case("two meanings, version 2, added", journal(both), 0, [group_del(0, 5, 2)])
+    for version in (2, 3):
+        case(f"two meanings, version {version}, added", journal(both, version=version), 0, [group_del(0, 5, 2)])
     case("two meanings, version 1, deleted", journal(both, flow_del(7), version=1), 1, [flow0(ADD, 7)])
-    case("two meanings, version 2, deleted", journal(both, group_del(0, 5, 2)), 1, [EXAMPLE])
+    for version in (2, 3):
+        case(f"two meanings, version {version}, deleted", journal(both, group_del(0, 5, 2), version=version), 1, [EXAMPLE])
 
 
 def build():
-    for make in (numbers, refusals, rooms, order, one_field, same_again, zeros, edges, example, version_1, other_meaning):
+    for make in (numbers, refusals, rooms, order, one_field, same_again, zeros, edges, example, version_1, routes, other_meaning):
         make()
     return CASES
 

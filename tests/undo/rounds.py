@@ -15,7 +15,7 @@ import harness
 
 MANY = 65_600  # lines of the one long journal; more than 16 bits count
 CARRIED = 0.3  # of the lists, as many are carried out
-COUNTED = ("evenings", "evenings of version 1", "lists", "refusals", "rooms", "payloads by the console")
+COUNTED = ("evenings", "evenings of versions 1 and 2", "lists", "refusals", "rooms", "payloads by the console")
 EVENINGS, OLD, LISTS, REFUSALS, ROOMS, PAYLOADS = COUNTED
 
 # How a journal reaches the program: as FILE, or as standard input, a file or a pipe.
@@ -102,7 +102,7 @@ def records_of(script, ran):
 
 def carried_out(programs, trail, n, list_, folder):
     """The list behind the night's script: all OK, and the journal of both leads to the tables of the first n lines. The night of a journal of
-    version 1 is played with the same commands as a device reads them, so its journal is of version 2."""
+    version 1 or 2 is played with commands that complete alike on a device, so its journal is of version 3."""
     paths = {name: own(folder) / name for name in ("night", "posted", "script", "longer")}
     paths["night"].write_bytes(trail)
     paths["posted"].write_bytes(list_)
@@ -168,7 +168,7 @@ def a_round(programs, seed, folder):
     frames = harness.generated("generate-asks", seed)
     counts[ROOMS] += len(harness.lines_of(compare_rooms(programs, frames))) // 3
     trail, numbers = questions(frames)
-    counts[OLD] += harness.version(trail) == 1
+    counts[OLD] += harness.version(trail) in (1, 2)
     for n in numbers:
         list_ = compare(programs, trail, n, folder, rng.choice((None, b"", rng.randbytes(300_000))), rng.choice(WAYS))
         counts[LISTS if list_ is not None else REFUSALS] += 1

@@ -4,8 +4,8 @@ use model::device::{Calls, Worked};
 use model::registers::Refusal;
 
 type Words = [u64; 16];
-type Flows = [[u32; 16]; 256];
-type Heads = [[u32; 3]; 128];
+type Flows = [[u32; 22]; 256];
+type Heads = [[u32; 8]; 128];
 type Members = [[u16; 62]; 128];
 
 /// A device as the host holds it. Only the archive looks into it.
@@ -90,8 +90,8 @@ impl Calls for Rocker {
         );
         let mut d = Rocker {
             registers: [0; 16],
-            flows: [[0; 16]; 256],
-            heads: [[0; 3]; 128],
+            flows: [[0; 22]; 256],
+            heads: [[0; 8]; 128],
             members: [[0; 62]; 128],
         };
         let answer = unsafe {

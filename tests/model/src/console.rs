@@ -1,7 +1,7 @@
 //! The drivers that read scripts: calls of the device, register calls alone, and payloads alone.
 
 use crate::device::{inside, Calls, Device};
-use crate::frame::LIST;
+use crate::frame::{LIST, NUMBERS};
 use crate::journal::LONGEST;
 use crate::registers::Refusal;
 use crate::tables::Tables;
@@ -10,7 +10,7 @@ use std::io::{self, BufRead, Write};
 
 pub const MEMORY_LIMIT: u64 = 1_048_576;
 pub const ROOM_LIMIT: u64 = 65_536;
-pub const LIST_LIMIT: u64 = 512;
+pub const LIST_LIMIT: u64 = 1_024;
 pub const LINE_LIMIT: usize = 65_535;
 pub const REGISTERS_LINE_LIMIT: usize = 256;
 
@@ -199,7 +199,7 @@ fn frame<D: Calls>(device: &D, port: u64, data: &[u8], list: usize) -> String {
     match device.frame(port, data, &mut list) {
         Ok(count) => {
             let mut text = format!("0 {count}");
-            for value in &list[..3 * count] {
+            for value in &list[..NUMBERS * count] {
                 let _ = write!(text, " {value}");
             }
             text

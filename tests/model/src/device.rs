@@ -1,6 +1,6 @@
 //! The device: its calls, each with its whole outcome.
 
-use crate::frame::{copies, vlan_of, LIST};
+use crate::frame::{copies, vlan_of, LIST, NUMBERS};
 use crate::journal;
 use crate::misread::{cut_if, misread, Label as L};
 use crate::registers::{Refusal, Registers};
@@ -412,8 +412,9 @@ impl Device {
     /// Writes the copies into the list and tells how many there are.
     pub fn frame(&self, port: u64, frame: &[u8], list: &mut [u16]) -> Result<usize, Refusal> {
         let short = match list.len() {
-            185 if misread(L::ListOf185Taken) => false,
-            186 if misread(L::ListOf186Refused) => true,
+            186..LIST if misread(L::ListOf186Taken) => false,
+            557 if misread(L::ListOf557Taken) => false,
+            558 if misread(L::ListOf558Refused) => true,
             _ if misread(L::ListByCopies) => false,
             length => length < LIST,
         };
@@ -435,15 +436,12 @@ impl Device {
             return Err(Refusal::List);
         }
         let copies = copies(&self.registers, &self.tables, port, frame);
-        if list.len() < 3 * copies.len() {
+        if list.len() < NUMBERS * copies.len() {
             // Only where a misreading takes too short a list.
             return Err(Refusal::List);
         }
-        for (place, copy) in list.chunks_exact_mut(3).zip(&copies) {
-            place.copy_from_slice(&[copy.port, copy.vlan, copy.pop]);
-            if misread(L::CopyVlanFirst) {
-                place.swap(0, 1);
-            }
+        for (place, copy) in list.chunks_exact_mut(NUMBERS).zip(&copies) {
+            place.copy_from_slice(&copy.numbers());
         }
         Ok(copies.len())
     }

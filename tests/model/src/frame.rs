@@ -2,19 +2,108 @@
 
 use crate::misread::{misread, Label as L};
 use crate::registers::Registers;
-use crate::tables::{id_low, id_type, id_vlan, Flow, Group, Match, Tables};
+use crate::tables::{id_low, id_type, id_vlan, EtherType, Flow, Group, Match, Prefix, Tables};
 use std::cmp::Reverse;
 
-/// One copy: three numbers of 16 bits in the lent list.
+/// One copy: nine numbers of 16 bits in the lent list. Both MACs are 0 where it is bridged.
 #[derive(Clone, Copy, Debug, PartialEq, Eq)]
 pub struct Copy {
     pub port: u16,
     pub vlan: u16,
     pub pop: u16,
+    pub source: [u8; 6],
+    pub destination: [u8; 6],
 }
 
-/// The longest list of copies: 62 members of three numbers.
-pub const LIST: usize = 186;
+/// How many numbers a copy is.
+pub const NUMBERS: usize = 9;
+
+impl Copy {
+    fn bridged(port: u16, vlan: u16, pop: u16) -> Copy {
+        Copy {
+            port,
+            vlan,
+            pop,
+            source: [0; 6],
+            destination: [0; 6],
+        }
+    }
+
+    /// Port, VLAN, POP_VLAN, source MAC, destination MAC.
+    pub fn numbers(&self) -> [u16; NUMBERS] {
+        let [s1, s2, s3] = words(self.source);
+        let [d1, d2, d3] = words(self.destination);
+        let (port, vlan, pop) = (self.port, self.vlan, self.pop);
+        match () {
+            _ if misread(L::CopyVlanFirst) => [vlan, port, pop, s1, s2, s3, d1, d2, d3],
+            _ if misread(L::CopyMacsFirst) => [s1, s2, s3, d1, d2, d3, port, vlan, pop],
+            _ if misread(L::CopyDestinationFirst) => [port, vlan, pop, d1, d2, d3, s1, s2, s3],
+            _ if misread(L::CopyMacWordsReversed) => [port, vlan, pop, s3, s2, s1, d3, d2, d1],
+            _ => [port, vlan, pop, s1, s2, s3, d1, d2, d3],
+        }
+    }
+}
+
+/// A MAC as three numbers, in wire order and big-endian each.
+fn words(mac: [u8; 6]) -> [u16; 3] {
+    [0, 2, 4].map(|at| match () {
+        _ if misread(L::CopyMacLittleEndian) => u16::from_le_bytes([mac[at], mac[at + 1]]),
+        _ => u16::from_be_bytes([mac[at], mac[at + 1]]),
+    })
+}
+
+/// The longest list of copies: 62 members of nine numbers.
+pub const LIST: usize = 62 * NUMBERS;
+
+/// Bytes that a routed frame has after its EtherType, at least.
+fn header_length(ethertype: EtherType) -> usize {
+    match ethertype {
+        EtherType::Ipv4 if misread(L::Ipv4Of19) => 19,
+        EtherType::Ipv4 if misread(L::Ipv4Of21) => 21,
+        EtherType::Ipv4 if misread(L::Ipv4Of40) => 40,
+        EtherType::Ipv6 if misread(L::Ipv6Of20) => 20,
+        EtherType::Ipv6 if misread(L::Ipv6Of39) => 39,
+        EtherType::Ipv6 if misread(L::Ipv6Of41) => 41,
+        EtherType::Ipv4 => 20,
+        EtherType::Ipv6 => 40,
+    }
+}
+
+/// Where the destination address begins after the EtherType.
+fn address_place(ethertype: EtherType) -> usize {
+    match ethertype {
+        EtherType::Ipv4 if misread(L::SourceAddress) => 12,
+        EtherType::Ipv6 if misread(L::SourceAddress) => 8,
+        EtherType::Ipv4 => 16,
+        EtherType::Ipv6 => 24,
+    }
+}
+
+fn is_tagged(frame: &[u8]) -> bool {
+    frame[12..14] == [0x81, 0x00]
+}
+
+/// The EtherType's place in a frame: behind the tag, where it has one.
+fn ethertype_place(frame: &[u8]) -> usize {
+    match is_tagged(frame) {
+        true if misread(L::EtherTypeAt12) => 12,
+        true if misread(L::EtherTypeAt14) => 14,
+        // Another tag behind the first one.
+        true if misread(L::EtherTypeBehindTags) && frame[16..18] == [0x81, 0x00] => 20,
+        true => 16,
+        false => 12,
+    }
+}
+
+/// The EtherType, if it is one of the two that are routed.
+fn ethertype_of(frame: &[u8]) -> Option<EtherType> {
+    let at = ethertype_place(frame);
+    let number = u16::from_be_bytes([*frame.get(at)?, *frame.get(at + 1)?]);
+    match misread(L::FrameEtherTypeLittleEndian) {
+        true => EtherType::of(number.swap_bytes()),
+        false => EtherType::of(number),
+    }
+}
 
 /// The VLAN of a frame, 0 without a tag; `None` for bytes that are no frame.
 pub fn vlan_of(frame: &[u8]) -> Option<u16> {
@@ -64,6 +153,18 @@ fn best(tables: &Tables, matches: impl Fn(&Match) -> bool) -> Option<&Flow> {
         Match::Bridge {
             group: Some(id), ..
         } => misread(L::MissingGroupNext) && !tables.groups.contains_key(id),
+        Match::Route { group: None, .. } => misread(L::RouteNoGroupNext),
+        Match::Route {
+            group: Some(id), ..
+        } => {
+            let there = |id| tables.groups.contains_key(id);
+            let lower = match tables.groups.get(id) {
+                Some(Group::Route { lower, .. }) => there(lower),
+                _ => false,
+            };
+            misread(L::RouteMissingGroupNext) && !there(id)
+                || misread(L::RouteMissingLowerNext) && !lower
+        }
         _ => false,
     };
     let matching = || {
@@ -74,7 +175,44 @@ fn best(tables: &Tables, matches: impl Fn(&Match) -> bool) -> Option<&Flow> {
     };
     let place = |cookie: &u64| tables.added.iter().position(|other| other == cookie);
     let exact = |flow: &Flow| matches!(flow.matching, Match::Bridge { mac: Some(_), .. });
+    // In table 30 the longest prefix decides before all else; elsewhere there is none.
+    let length = |flow: &Flow| match &flow.matching {
+        Match::Route { prefix, .. } => prefix.length(),
+        _ => 0,
+    };
+    let in_30 = matching().any(|(_, flow)| flow.table() == 30);
     match () {
+        _ if in_30 && misread(L::PrefixShortest) => {
+            matching().max_by_key(|(c, f)| (Reverse(length(f)), f.priority, Reverse(**c)))
+        }
+        _ if in_30 && misread(L::PriorityBeforePrefix) => {
+            matching().max_by_key(|(c, f)| (f.priority, length(f), Reverse(**c)))
+        }
+        _ if in_30 && misread(L::PrefixIgnored) => {
+            matching().max_by_key(|(c, f)| (f.priority, Reverse(**c)))
+        }
+        _ if in_30 && misread(L::PrefixThenCookie) => {
+            matching().max_by_key(|(c, f)| (length(f), Reverse(**c)))
+        }
+        _ if in_30 && misread(L::PrefixThenLowestPriority) => {
+            matching().max_by_key(|(c, f)| (length(f), Reverse(f.priority), Reverse(**c)))
+        }
+        _ if in_30 && misread(L::RouteTiesToHigherCookie) => {
+            matching().max_by_key(|(c, f)| (length(f), f.priority, **c))
+        }
+        _ if in_30 && misread(L::RouteTiesToFirstAdded) => {
+            matching().max_by_key(|(c, f)| (length(f), f.priority, Reverse(place(c))))
+        }
+        _ if in_30 && misread(L::RoutePrioritySigned) => {
+            matching().max_by_key(|(c, f)| (length(f), f.priority as i32, Reverse(**c)))
+        }
+        _ if in_30 && misread(L::PrefixByWholeBytes) => {
+            matching().max_by_key(|(c, f)| (length(f) / 8, f.priority, Reverse(**c)))
+        }
+        _ if in_30 && misread(L::PrefixUpTo32) => {
+            matching().max_by_key(|(c, f)| (length(f).min(32), f.priority, Reverse(**c)))
+        }
+        _ if in_30 => matching().max_by_key(|(c, f)| (length(f), f.priority, Reverse(**c))),
         _ if misread(L::PriorityLowest) => matching().min_by_key(|(c, f)| (f.priority, **c)),
         _ if misread(L::PriorityIgnored) => matching().next(),
         _ if misread(L::PrioritySigned) => {
@@ -96,8 +234,134 @@ fn best(tables: &Tables, matches: impl Fn(&Match) -> bool) -> Option<&Flow> {
     .map(|(_, flow)| flow)
 }
 
-/// The group that the tables choose, with the VLAN that the frame then has.
-fn route(tables: &Tables, ingress: u32, vlan: u16, frame: &[u8]) -> Option<(u32, u16)> {
+/// The group that the tables choose.
+#[derive(Clone, Copy, Debug, PartialEq, Eq)]
+enum Way {
+    /// By table 50, with the VLAN that the frame then has.
+    Bridged(u32, u16),
+    /// By table 30: a group of type 2.
+    Routed(u32),
+}
+
+/// Whether a frame is to be routed: the deciding flow of table 20 matches it.
+fn is_routed(tables: &Tables, ingress: u32, vlan: u16, tag: u16, frame: &[u8]) -> bool {
+    let hit = best(tables, |m| match m {
+        Match::Termination {
+            port,
+            ethertype,
+            mac,
+            vlan: v,
+        } => {
+            let ports = *port == ingress || misread(L::Table20PortIgnored);
+            let types =
+                Some(*ethertype) == ethertype_of(frame) || misread(L::Table20EtherTypeIgnored);
+            let macs = match () {
+                _ if misread(L::Table20MacIgnored) => true,
+                _ if misread(L::Table20SourceMac) => mac[..] == frame[6..12],
+                _ if misread(L::Table20LastMacByteFree) => mac[..5] == frame[..5],
+                _ => mac[..] == frame[..6],
+            };
+            let vlans = match () {
+                _ if misread(L::Table20VlanIgnored) => true,
+                _ if misread(L::Table20VlanOfFrame) => *v == tag,
+                _ => *v == vlan,
+            };
+            ports && types && macs && vlans
+        }
+        _ => false,
+    });
+    hit.is_some_and(|flow| flow.goto == 30) && !misread(L::Table20Ignored)
+}
+
+/// Whether an address is one of a prefix: both sides under the mask.
+fn is_inside(address: &[u8], prefix: &Prefix) -> bool {
+    let bytes = prefix.address.iter().zip(&prefix.mask).zip(address);
+    let mut bytes = bytes.map(|((own, mask), other)| match () {
+        _ if misread(L::RouteMaskOnFrameOnly) => *own == other & mask,
+        _ if misread(L::RouteMaskOnFlowOnly) => own & mask == *other,
+        _ if misread(L::RouteMaskIgnored) => own == other,
+        _ if misread(L::RouteMaskInverted) => own & !mask == other & !mask,
+        _ => own & mask == other & mask,
+    });
+    bytes.all(|same| same)
+}
+
+/// What table 30 makes of a frame: a group of type 2, or nothing. A misreading may send it on to table 50.
+fn routed(tables: &Tables, frame: &[u8]) -> Result<Option<u32>, Bridged> {
+    let ethertype = match ethertype_of(frame) {
+        None => return Ok(None),
+        Some(ethertype) => ethertype,
+    };
+    let start = match () {
+        _ if misread(L::HeaderAt14) => 14,
+        _ if misread(L::HeaderTakesEtherType) => ethertype_place(frame),
+        _ => ethertype_place(frame) + 2,
+    };
+    let mut behind = frame.get(start..).unwrap_or_default().to_vec();
+    let counted = match () {
+        _ if misread(L::HeaderByFrame) => frame.len(),
+        _ => behind.len(),
+    };
+    if counted < header_length(ethertype) {
+        return match misread(L::ShortBridged) {
+            true => Err(Bridged),
+            false => Ok(None),
+        };
+    }
+    // Longer only where a misreading takes too few bytes.
+    behind.resize(behind.len().max(40), 0);
+    let (_, width) = ethertype.pair();
+    let address = &behind[address_place(ethertype)..][..width];
+    let dropped = match () {
+        _ if misread(L::IpVersionLooked) => {
+            behind[0] >> 4 != if ethertype == EtherType::Ipv4 { 4 } else { 6 }
+        }
+        _ if misread(L::IpHeaderLooked) => ethertype == EtherType::Ipv4 && behind[0] & 15 != 5,
+        _ if misread(L::TtlLooked) => match ethertype {
+            EtherType::Ipv4 => behind[8] < 2,
+            EtherType::Ipv6 => behind[7] < 2,
+        },
+        _ if misread(L::FrameUnicast) => match ethertype {
+            EtherType::Ipv4 => address[0] >= 224,
+            EtherType::Ipv6 => address[0] == 255,
+        },
+        _ => false,
+    };
+    if dropped {
+        return Ok(None);
+    }
+    let hit = best(tables, |m| match m {
+        Match::Route {
+            ethertype: own,
+            prefix,
+            ..
+        } => {
+            let types = *own == ethertype
+                || misread(L::Table30EtherTypeIgnored) && prefix.mask.len() <= width;
+            types && is_inside(address, prefix)
+        }
+        _ => false,
+    });
+    match hit {
+        None if misread(L::Table30MissBridges) => Err(Bridged),
+        Some(flow) if flow.goto == 0 && misread(L::Table30DropBridges) => Err(Bridged),
+        Some(flow) => match flow.matching {
+            Match::Route { group: None, .. } if misread(L::RouteNoGroupBridges) => Err(Bridged),
+            Match::Route { group, .. } if flow.goto != 0 || misread(L::Table30DropPasses) => {
+                Ok(group)
+            }
+            _ => Ok(None),
+        },
+        None => Ok(None),
+    }
+}
+
+/// What only a misreading does with a frame that was to be routed.
+struct Bridged;
+
+/// The way of a frame, by its VLAN, through all tables.
+fn way(tables: &Tables, ingress: u32, tag: u16, frame: &[u8]) -> Option<Way> {
+    let vlan = tag;
     let first = best(tables, |m| match m {
         Match::Ingress { .. } if misread(L::Table0Ignored) => false,
         Match::Ingress { port, mask } if misread(L::MaskOnPortOnly) => ingress & mask == *port,
@@ -129,7 +393,7 @@ fn route(tables: &Tables, ingress: u32, vlan: u16, frame: &[u8]) -> Option<(u32,
     if second.is_some_and(|flow| flow.goto == 0) && !misread(L::Table10DropPasses) {
         return None;
     }
-    if misread(L::Table20Drops) || misread(L::Table60Drops) {
+    if misread(L::Table60Drops) {
         return None;
     }
     let vlan = match second.map(|flow| &flow.matching) {
@@ -140,6 +404,14 @@ fn route(tables: &Tables, ingress: u32, vlan: u16, frame: &[u8]) -> Option<(u32,
         }) => *new,
         _ => vlan,
     };
+    // A hit in table 20 goes to 30, a miss to 50.
+    if is_routed(tables, ingress, vlan, tag, frame) {
+        if let Ok(group) = routed(tables, frame) {
+            return group.map(Way::Routed);
+        }
+    } else if misread(L::Table20MissDrops) {
+        return None;
+    }
     let third = best(tables, |m| match m {
         Match::Bridge { vlan: v, .. } if misread(L::Table50MacIgnored) => *v == vlan,
         Match::Bridge { vlan: v, mac, .. } if misread(L::Table50SourceMac) => {
@@ -158,12 +430,13 @@ fn route(tables: &Tables, ingress: u32, vlan: u16, frame: &[u8]) -> Option<(u32,
     let Some(third) = third else {
         let flood = |id: &u32| misread(L::Table50MissFloods) && id_type(*id) == 4;
         let mut floods = tables.groups.keys().copied().filter(flood);
-        return floods.find(|id| id_vlan(*id) == vlan).map(|id| (id, vlan));
+        let found = floods.find(|id| id_vlan(*id) == vlan);
+        return found.map(|id| Way::Bridged(id, vlan));
     };
     match third.matching {
         Match::Bridge {
             group: Some(id), ..
-        } if third.goto != 0 || misread(L::Table50DropPasses) => Some((id, vlan)),
+        } if third.goto != 0 || misread(L::Table50DropPasses) => Some(Way::Bridged(id, vlan)),
         _ => None,
     }
 }
@@ -194,6 +467,57 @@ fn goes_out(registers: &Registers, ingress: u32, port: u32) -> bool {
     }
 }
 
+/// Whether a routed copy goes out on a port: the ingress port is one like the others.
+fn is_sent(registers: &Registers, ingress: u32, port: u32) -> bool {
+    let known = (1..=registers.ports).contains(&port);
+    match () {
+        _ if misread(L::RoutedNotToIngress) && port == ingress => false,
+        _ if misread(L::RoutedToDown) && known => registers.enable.value & (1 << port) != 0,
+        _ if misread(L::RoutedToNotEnabled) && known => registers.links & (1 << port) != 0,
+        _ if misread(L::RoutedHostLeftOut) => registers.carries(port),
+        _ => port == 0 || registers.carries(port),
+    }
+}
+
+/// The copy that a group of type 2 gives, if it and its lower group exist.
+fn routed_copy(registers: &Registers, tables: &Tables, ingress: u32, id: u32) -> Option<Copy> {
+    let Some(Group::Route {
+        lower,
+        vlan,
+        source,
+        destination,
+    }) = tables.groups.get(&id)
+    else {
+        return None;
+    };
+    let (port, pop) = match tables.groups.get(lower) {
+        Some(Group::Port { port, pop }) => (*port, u16::from(*pop)),
+        None if misread(L::CopyOfMissingLower) => (id_low(*lower), 0),
+        _ => return None,
+    };
+    is_sent(registers, ingress, u32::from(port)).then_some(Copy {
+        port,
+        vlan: *vlan,
+        pop,
+        source: *source,
+        destination: *destination,
+    })
+}
+
+/// What misreadings change of a routed copy.
+fn misroute(copy: &mut Copy, frame: &[u8], frame_vlan: u16) {
+    match () {
+        _ if misread(L::RoutedVlanOfFrame) => copy.vlan = frame_vlan,
+        _ if misread(L::RoutedPop0) => copy.pop = 0,
+        _ if misread(L::RoutedPop1) => copy.pop = 1,
+        _ if misread(L::RoutedSourceOfFrame) => copy.source.copy_from_slice(&frame[6..12]),
+        _ if misread(L::RoutedDestinationOfFrame) => copy.destination.copy_from_slice(&frame[..6]),
+        _ if misread(L::RoutedSourceOfRouter) => copy.source.copy_from_slice(&frame[..6]),
+        _ if misread(L::RoutedWithoutMacs) => (copy.source, copy.destination) = ([0; 6], [0; 6]),
+        _ => {}
+    }
+}
+
 /// All copies of a frame that came in on a known port, in their order.
 pub fn copies(registers: &Registers, tables: &Tables, ingress: u32, frame: &[u8]) -> Vec<Copy> {
     let Some(frame_vlan) = vlan_of(frame) else {
@@ -202,11 +526,21 @@ pub fn copies(registers: &Registers, tables: &Tables, ingress: u32, frame: &[u8]
     if !comes_in(registers, ingress) {
         return Vec::new();
     }
-    let Some((id, vlan)) = route(tables, ingress, frame_vlan, frame) else {
-        return Vec::new();
+    let (id, vlan) = match way(tables, ingress, frame_vlan, frame) {
+        None => return Vec::new(),
+        Some(Way::Routed(id)) if id_type(id) == 2 => {
+            let mut copy = routed_copy(registers, tables, ingress, id);
+            if let Some(copy) = &mut copy {
+                misroute(copy, frame, frame_vlan);
+            }
+            return copy.into_iter().collect();
+        }
+        // Another type only by a misreading.
+        Some(Way::Routed(id)) => (id, id_vlan(id)),
+        Some(Way::Bridged(id, vlan)) => (id, vlan),
     };
     let mut chosen: Vec<u32> = match tables.groups.get(&id) {
-        None => Vec::new(),
+        None | Some(Group::Route { .. }) => Vec::new(),
         Some(Group::Port { .. }) => vec![id],
         Some(Group::List { members }) => members.clone(),
     };
@@ -222,16 +556,8 @@ pub fn copies(registers: &Registers, tables: &Tables, ingress: u32, frame: &[u8]
     let mut copies: Vec<Copy> = chosen
         .iter()
         .filter_map(|member| match tables.groups.get(member) {
-            Some(Group::Port { port, pop }) => Some(Copy {
-                port: *port,
-                vlan,
-                pop: u16::from(*pop),
-            }),
-            _ if misread(L::CopyOfMissingMember) => Some(Copy {
-                port: id_low(*member),
-                vlan,
-                pop: 0,
-            }),
+            Some(Group::Port { port, pop }) => Some(Copy::bridged(*port, vlan, u16::from(*pop))),
+            _ if misread(L::CopyOfMissingMember) => Some(Copy::bridged(id_low(*member), vlan, 0)),
             _ => None,
         })
         .filter(|copy| goes_out(registers, ingress, u32::from(copy.port)))
@@ -244,6 +570,10 @@ pub fn copies(registers: &Registers, tables: &Tables, ingress: u32, frame: &[u8]
     for copy in &mut copies {
         match () {
             _ if misread(L::CopyVlanOfFrame) => copy.vlan = frame_vlan,
+            _ if misread(L::BridgedMacsOfFrame) => {
+                copy.destination.copy_from_slice(&frame[..6]);
+                copy.source.copy_from_slice(&frame[6..12]);
+            }
             _ if misread(L::CopyPopOfNone) && frame_vlan == 0 => copy.pop = 0,
             _ if misread(L::CopyPop0) && id_type(id) != 0 => copy.pop = 0,
             _ => {}

@@ -4,6 +4,7 @@
 //! can aim at the edges; the input it prints stands by itself.
 
 mod commands;
+pub use commands::written;
 mod evening;
 mod payloads;
 mod script;
@@ -14,12 +15,16 @@ pub use payloads::payloads;
 pub use script::script;
 pub use trail::journal;
 
+use crate::tlv::Version;
+
 /// The splitmix generator: small, and the same everywhere.
 pub struct Rng {
     state: u64,
     /// The share of commands, in percent, that have what is to be skipped in
     /// them. Only some seeds have any, so that the others stay as they are.
     skipping: u64,
+    /// The share of commands, in percent, of tables 20 and 30 and of type 2.
+    routing: u64,
 }
 
 impl Rng {
@@ -27,7 +32,17 @@ impl Rng {
         Rng {
             state: seed,
             skipping: 0,
+            routing: 45,
         }
+    }
+
+    /// The same for a trail of a version: one that has no routes has few commands
+    /// for them, all of them refused.
+    pub fn of_version(mut self, version: Version) -> Self {
+        if !version.routes() {
+            self.routing = 12;
+        }
+        self
     }
 
     /// The same with things to be skipped, where the seed is one of those.

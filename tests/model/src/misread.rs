@@ -1,5 +1,5 @@
-//! Misreadings: one sentence of the build description, or of request 2026-02,
-//! taken in another sense.
+//! Misreadings: one sentence of the build description, or of the requests
+//! 2026-02 and 2026-03, taken in another sense.
 //!
 //! None is chosen unless the command line names one, and `misread` is then
 //! false everywhere: what a chapter says stands beside the question. They show
@@ -80,8 +80,8 @@ labels! {
     RoomOneMore "the room has to be longer than the line"
     RoomPayloadOnly "the room has to hold the payload alone"
     HeaderRoomOneMore "the header's room has to be longer than the header"
-    ListOf185Taken "a list of 185 numbers is long enough"
-    ListOf186Refused "a list of 186 numbers is too short"
+    ListOf557Taken "a list of 557 numbers is long enough"
+    ListOf558Refused "a list of 558 numbers is too short"
     ListByCopies "the list only has to hold the copies there are"
     RefusedHeadMoves "a refused HEAD is written all the same"
     RefusedSizeMovesHead "a refused SIZE sets HEAD and TAIL to 0"
@@ -280,16 +280,16 @@ labels! {
     UnknownEinval "an unknown CMD_TYPE is EINVAL"
     UnknownBeforeTop "an unknown CMD_TYPE comes before the other top faults"
     NestBeforeUnknown "an ill-formed nest comes before an unknown CMD_TYPE"
-    TableBeforeNest "TBL not 0, 10 or 50 comes before an ill-formed nest"
-    TableBeforeForm "TBL not 0, 10 or 50 comes before its wrong form"
-    TableEinval "TBL not 0, 10 or 50 is EINVAL"
+    TableBeforeNest "a TBL that is not there comes before an ill-formed nest"
+    TableBeforeForm "a TBL that is not there comes before its wrong form"
+    TableEinval "a TBL that is not there is EINVAL"
     TableMissingEnotsup "a missing TBL is ENOTSUP"
-    FieldsBeforeTable "faults of other fields come before TBL not 0, 10 or 50"
+    FieldsBeforeTable "faults of other fields come before a TBL that is not there"
     KeyBeforeFields "EEXIST and ENOENT come before bad fields"
     FullBeforeFields "ENOMEM comes before bad fields"
     FullBeforeKey "ENOMEM comes before EEXIST"
     ModWhenFull "mod is ENOMEM when the table is full"
-    Table20Taken "TBL 20 is taken as 10"
+    Table40Taken "TBL 40 is taken as 30"
     Table60Taken "TBL 60 is taken as 50"
     Flows255 "ENOMEM comes at 255 flows"
     Flows257 "ENOMEM comes at 257 flows"
@@ -300,8 +300,8 @@ labels! {
     ModAdds "mod of no live key adds it"
     DelOfNoneOk "del of no live key is OK"
     DelAll "del takes all flows or groups"
-    DelNeedsTable "flow del needs a TBL of 0, 10 or 50"
-    DelLooksAtTable "a TBL given to flow del must be 0, 10 or 50"
+    DelNeedsTable "flow del needs a TBL that is there"
+    DelLooksAtTable "a TBL given to flow del must be one that is there"
     DelComparesTable "a TBL given to flow del must be the flow's"
     DelComparesPriority "a PRIORITY given to flow del must be the flow's"
     CookieByTable "a cookie is a key in its table only"
@@ -363,7 +363,6 @@ labels! {
     MacByLastByte "the last MAC byte is the one that is even or odd"
     MacBroadcastOnly "only ff ff ff ff ff ff is odd"
     GroupType1 "group type 1 is taken as a list"
-    GroupType2 "group type 2 is taken as type 0"
     GroupType5 "group type 5 is taken as a list"
     GroupTypeBy2Bits "the type of a group stands in bits 29 and 28"
     GroupTypeBy3Bits "the type of a group stands in bits 30 to 28"
@@ -461,7 +460,6 @@ labels! {
     Table10VlanIgnored "table 10 compares the port only"
     Table10UntaggedAny "VLAN_ID 0 of table 10 matches any VLAN"
     NewVlanIgnored "a frame without VLAN keeps VLAN 0"
-    Table20Drops "table 20, being empty, drops"
     Table60Drops "table 60, being empty, drops"
     Table50MissFloods "a miss in table 50 takes a group of type 4 of the VLAN"
     Table50DropPasses "GOTO_TBL 0 of table 50 goes on"
@@ -471,8 +469,8 @@ labels! {
     Table50MacNeeded "a flow without DST_MAC matches nothing"
     Table50MacFirst "a flow with DST_MAC comes before those without"
     Table50LastMacByteFree "table 50 compares 5 bytes of DST_MAC"
-    CopyVlanFirst "a copy is VLAN, port, POP_VLAN"
-    CopyToIngress "copies go to the ingress port too"
+    CopyVlanFirst "a copy is VLAN, port, POP_VLAN and the MACs"
+    CopyToIngress "bridged copies go to the ingress port too"
     CopyToDown "copies go to ports that are down"
     CopyToNotEnabled "copies go to ports that are not enabled"
     CopyHostLeftOut "the host's copies are left out"
@@ -564,15 +562,13 @@ labels! {
     Under8MembersSkipped "a TLV of a length under 8 in GROUP_IDS is skipped"
     Under8Ends "a length under 8 ends a region"
     InfoUnder8BeforeUnknown "a length under 8 in CMD_INFO comes before an unknown CMD_TYPE"
-    TableBeforeUnder8 "TBL not 0, 10 or 50 comes before a length under 8 in CMD_INFO"
+    TableBeforeUnder8 "a TBL that is not there comes before a length under 8 in CMD_INFO"
     KeyBeforeMembersUnder8 "EEXIST and ENOENT come before a length under 8 in GROUP_IDS"
 
     // Request 2026-02: "New trails carry version 2; version 1 trails are still read"
     HeaderVersion1 "the version written is 1"
-    HeaderVersion3 "the version written is 3"
     LineLengthTakesHead "the line's length counts 8 bytes more than its payload has"
-    ReplayVersion3 "version 3 is taken"
-    ReplayVersionsAbove "versions above 2 are taken"
+    ReplayVersionsAbove "versions above 3 are taken"
     ReplayVersionBigEndian "the version is read big-endian"
     ReplayVersion1Refused "version 1 is refused"
     ReplayVersion2Refused "version 2 is refused"
@@ -585,6 +581,194 @@ labels! {
     OldNestNew "in version 1 the length of CMD_INFO or GROUP_IDS counts the header"
     OldLength0Refused "a length of 0 is ill formed in version 1"
     OldUnder8Refused "a length under 8 is ill formed in version 1"
+
+    // Request 2026-03: "Add tables 20 and 30 for IPv4 and IPv6, as the guide lists them, and group type 2"
+    Table20Enotsup "TBL 20 is ENOTSUP"
+    Table30Enotsup "TBL 30 is ENOTSUP"
+    GroupType2Refused "group type 2 is EINVAL"
+    EtherTypeAny "ETHERTYPE may be any number"
+    EtherTypeIpv6Refused "ETHERTYPE 0x86DD is EINVAL"
+    EtherType0806 "ETHERTYPE 0x0806 is taken as IPv4"
+    EtherType8847 "ETHERTYPE 0x8847 is taken as IPv4"
+
+    // Request 2026-03: "Table 20 compares IN_PPORT .., ETHERTYPE, DST_MAC and VLAN_ID .. without masks; its GOTO_TBL is 30"
+    Table20Port0 "table 20 takes IN_PPORT 0"
+    Table20Port1Refused "table 20 refuses IN_PPORT 1"
+    Table20LastPortRefused "table 20 refuses the last port"
+    Table20PortAbove "table 20 takes the port after the last"
+    Table20AnyPort "table 20 takes any IN_PPORT"
+    Table20PortBy16Bits "table 20 takes the low 16 bits of IN_PPORT"
+    Table20Vlan0 "table 20 takes VLAN_ID 0"
+    Table20Vlan1Refused "table 20 refuses VLAN_ID 1"
+    Table20Vlan4094Refused "table 20 refuses VLAN_ID 4094"
+    Table20Vlan4095 "table 20 takes VLAN_ID 4095"
+    Table20MacEven "DST_MAC of table 20 has an even first byte"
+    Table20MacNot0 "table 20 refuses a DST_MAC of zeros"
+    Table20Masks "masks that are given to table 20 must have all bits set"
+    Table20OutPport "OUT_PPORT, where given, must be 0 for table 20"
+    Table20Goto0 "table 20 may have GOTO_TBL 0"
+    Table20Goto40 "table 20 may go to 40"
+    Table20Goto50 "table 20 may go to 50"
+    Table20Goto60 "table 20 may go to 60"
+    Table10Goto30 "table 10 may go to 30"
+    Table20Ignored "table 20 is passed through"
+    Table20MissDrops "a miss in table 20 drops"
+    Table20PortIgnored "table 20 does not compare the port"
+    Table20EtherTypeIgnored "table 20 does not compare the EtherType"
+    Table20MacIgnored "table 20 does not compare the MAC"
+    Table20VlanIgnored "table 20 does not compare the VLAN"
+    Table20VlanOfFrame "table 20 compares the VLAN that the frame came with"
+    Table20SourceMac "table 20 compares the source MAC"
+    Table20LastMacByteFree "table 20 compares 5 bytes of DST_MAC"
+
+    // Request 2026-03: "A miss in 30, or under 20 (IPv6 40) bytes after the EtherType, drops; a tagged frame's is bytes 16 and 17"
+    Table30MissBridges "a miss in table 30 goes to 50"
+    ShortBridged "a frame that is too short for table 30 goes to 50"
+    Ipv4Of19 "19 bytes after the EtherType are enough for IPv4"
+    Ipv4Of21 "20 bytes after the EtherType are too few for IPv4"
+    Ipv4Of40 "IPv4 needs 40 bytes after the EtherType too"
+    Ipv6Of20 "20 bytes after the EtherType are enough for IPv6"
+    Ipv6Of39 "39 bytes after the EtherType are enough for IPv6"
+    Ipv6Of41 "40 bytes after the EtherType are too few for IPv6"
+    HeaderByFrame "the 20 or 40 bytes are those of the whole frame"
+    HeaderTakesEtherType "the 20 or 40 bytes begin with the EtherType"
+    HeaderAt14 "the bytes of a tagged frame are counted from byte 14 too"
+    EtherTypeAt12 "the EtherType of a tagged frame is bytes 12 and 13"
+    EtherTypeAt14 "the EtherType of a tagged frame is bytes 14 and 15"
+    EtherTypeBehindTags "the EtherType stands behind a second tag"
+    FrameEtherTypeLittleEndian "a frame's EtherType is little-endian"
+    SourceAddress "table 30 compares the source address"
+    IpVersionLooked "a frame of another IP version than its EtherType says is dropped"
+    IpHeaderLooked "an IPv4 frame with options is dropped"
+    TtlLooked "a frame with a TTL under 2 is dropped"
+    FrameUnicast "a frame to a multicast address is dropped in table 30"
+
+    // Request 2026-03: "Table 30 takes exactly the address and mask of its ETHERTYPE .., both sides compared under the mask"
+    RouteMaskOnFrameOnly "table 30 masks the frame's address only"
+    RouteMaskOnFlowOnly "table 30 masks the flow's address only"
+    RouteMaskIgnored "table 30 compares whole addresses"
+    RouteMaskInverted "bits of a mask of table 30 are those not compared"
+    Table30EtherTypeIgnored "table 30 does not compare the EtherType"
+    AddressBitsOutside "an address with bits outside its mask is EINVAL"
+    RouteVlan "VLAN_ID, where given, is read for table 30"
+
+    // Request 2026-03: "only prefix masks and unicast destinations (first byte under 224, IPv6 not FF)"
+    MaskAny "a mask may be no prefix"
+    MaskSuffix "a mask has zeros, then ones"
+    MaskWholeBytes "a mask has whole bytes of ones"
+    MaskAllRefused "a mask of all ones is EINVAL"
+    Mask0Refused "a mask of no ones is EINVAL"
+    MaskLastBitFree "the last bit of a mask is not looked at"
+    MaskByFirst4Bytes "of an IPv6 mask the first 4 bytes are looked at"
+    MulticastTaken "multicast destinations are taken"
+    Ipv4First0Refused "an IPv4 address with first byte 0 is EINVAL"
+    Ipv4First127Refused "an IPv4 address with first byte 127 is EINVAL"
+    Ipv4First223Refused "an IPv4 address with first byte 223 is EINVAL"
+    Ipv4First224Taken "an IPv4 address with first byte 224 is taken"
+    Ipv4First240Taken "an IPv4 address with a first byte from 240 on is taken"
+    Ipv4First255Taken "an IPv4 address with first byte 255 is taken"
+    Ipv6First0Refused "an IPv6 address with first byte 0 is EINVAL"
+    Ipv6First224Refused "an IPv6 address with a first byte from 224 on is EINVAL"
+    Ipv6FirstFeRefused "an IPv6 address with first byte FE is EINVAL"
+    Ipv6FirstFfTaken "an IPv6 address with first byte FF is taken"
+    UnicastUnderMask "whether an address is unicast is asked under its mask"
+
+    // Request 2026-03: "GOTO_TBL 60 or 0, an optional type 2 GROUP_ID"
+    Table30Goto50 "table 30 may go to 50"
+    Table30Goto0Refused "GOTO_TBL 0 of table 30 is EINVAL"
+    Table30DropPasses "GOTO_TBL 0 of table 30 goes on"
+    Table30DropBridges "GOTO_TBL 0 of table 30 goes to 50"
+    RouteGroupRequired "table 30 needs GROUP_ID"
+    RouteGroup0None "GROUP_ID 0 of table 30 is none"
+    RouteGroupExists "a group that table 30 names must exist"
+    RouteGroupType0 "table 30 may name a group of type 0"
+    RouteGroupList "table 30 may name a group of type 3 or 4"
+    RouteNoGroupNext "a route without group leaves it to the next that matches"
+    RouteNoGroupBridges "a route without group goes to 50"
+    RouteMissingGroupNext "a route whose group is missing leaves it to the next that matches"
+    RouteMissingLowerNext "a route whose lower group is missing leaves it to the next that matches"
+    ModKeepsRouteGroup "mod without GROUP_ID keeps that of a route"
+    ModKeepsPrefix "mod keeps the address and mask of a route"
+
+    // Request 2026-03: "the longest prefix decides before PRIORITY, then the lower cookie"
+    PrefixShortest "the shortest prefix decides"
+    PrefixIgnored "the prefix does not decide"
+    PrefixByWholeBytes "prefixes are compared by whole bytes"
+    PrefixUpTo32 "prefixes longer than 32 bits count as 32"
+    PriorityBeforePrefix "PRIORITY decides before the prefix"
+    PrefixThenCookie "the lower cookie decides right after the prefix"
+    PrefixThenLowestPriority "of equal prefixes the lowest PRIORITY decides"
+    RoutePrioritySigned "PRIORITY is a signed number in table 30"
+    RouteTiesToHigherCookie "ties in table 30 go to the higher cookie"
+    RouteTiesToFirstAdded "ties in table 30 go to the flow added first"
+
+    // Request 2026-03: "Type 2, an index in bits 27 to 0, gives new source and destination MAC, a VLAN and a type 0 group of that VLAN"
+    Type2AsksVlan "a group ID of type 2 has a VLAN from 1 to 4094"
+    Type2VlanInId "a group ID of type 2 has the VLAN of VLAN_ID"
+    Type2IndexBy16Bits "the index of type 2 has 16 bits"
+    Type2Index0Refused "index 0 of type 2 is EINVAL"
+    Type2DelAsksVlan "group del of type 2 asks for a VLAN in the ID"
+    Type2DelRefused "group del of type 2 is EINVAL"
+    Type2Vlan0 "type 2 takes VLAN_ID 0"
+    Type2Vlan1Refused "type 2 refuses VLAN_ID 1"
+    Type2Vlan4094Refused "type 2 refuses VLAN_ID 4094"
+    Type2Vlan4095 "type 2 takes VLAN_ID 4095"
+    Type2SourceEven "SRC_MAC of type 2 has an even first byte"
+    Type2DestinationEven "DST_MAC of type 2 has an even first byte"
+    Type2SourceNot0 "SRC_MAC of type 2 may not be zeros"
+    Type2DestinationNot0 "DST_MAC of type 2 may not be zeros"
+    Type2MacsDiffer "the MACs of type 2 must differ"
+    Type2Pop "POP_VLAN, where given, is read for type 2"
+    LowerType2 "a lower group may be of type 2"
+    LowerList "a lower group may be of type 3 or 4"
+    LowerAnyVlan "a lower group may have another VLAN"
+    LowerExists "a lower group must exist"
+    LowerLowBits "a lower group has low bits up to the port count"
+    LowerHostRefused "a lower group may not be the host's"
+    EvenMacType2 "type 2 goes with an even first MAC byte in table 50"
+    MembersType2 "groups of type 2 may be members"
+    GroupModKeepsLower "group mod keeps the lower group and the VLAN"
+    GroupModKeepsSource "group mod keeps SRC_MAC"
+    GroupModKeepsDestination "group mod keeps DST_MAC"
+    GroupDelDropsType2 "group del takes the groups of type 2 above it along"
+
+    // Request 2026-03: "a copy becomes nine 16-bit numbers (last six: source, destination MAC (N); 0 where bridged) and answer 9 asks for 558"
+    ListOf186Taken "a list of 186 to 557 numbers is long enough"
+    CopyMacsFirst "a copy begins with its MACs"
+    CopyDestinationFirst "the destination MAC comes before the source MAC"
+    CopyMacWordsReversed "the numbers of a MAC come from its end"
+    CopyMacLittleEndian "the numbers of a MAC are little-endian"
+    BridgedMacsOfFrame "a bridged copy has the MACs of the frame"
+    RoutedSourceOfFrame "a routed copy keeps the source MAC"
+    RoutedSourceOfRouter "a routed copy has the frame's destination MAC as its source"
+    RoutedDestinationOfFrame "a routed copy keeps the destination MAC"
+    RoutedWithoutMacs "a routed copy has no MACs"
+    RoutedVlanOfFrame "a routed copy has the VLAN that the frame came with"
+    RoutedPop0 "a routed copy has POP_VLAN 0"
+    RoutedPop1 "a routed copy has POP_VLAN 1"
+    CopyOfMissingLower "a missing lower group gives a copy"
+
+    // Request 2026-03: "A routed frame may leave by its ingress port"
+    RoutedNotToIngress "a routed copy to the ingress port is left out"
+    RoutedToDown "routed copies go to ports that are down"
+    RoutedToNotEnabled "routed copies go to ports that are not enabled"
+    RoutedHostLeftOut "routed copies to the host are left out"
+
+    // Request 2026-03: "New trails carry version 3; older ones have neither these tables nor type 2"
+    HeaderVersion2 "the version written is 2"
+    HeaderVersion4 "the version written is 4"
+    ReplayVersion3Refused "version 3 is refused"
+    ReplayVersion3As2 "version 3 is read as version 2"
+    ReplayVersion4 "version 4 is taken"
+    Version3LengthsOld "version 3 has lengths that count the value alone"
+    Version1Routes "version 1 has tables 20 and 30 and type 2"
+    Version2Routes "version 2 has tables 20 and 30 and type 2"
+    OldTable20 "versions 1 and 2 have table 20"
+    OldTable30 "versions 1 and 2 have table 30"
+    OldTableEinval "TBL 20 and 30 are EINVAL in versions 1 and 2"
+    OldType2 "versions 1 and 2 have type 2"
+    OldType2Deleted "group del of type 2 is read in versions 1 and 2"
+    OldType2Enotsup "type 2 is ENOTSUP in versions 1 and 2"
 }
 
 /// The forms of a command that differ in the fields they use.
@@ -592,24 +776,60 @@ labels! {
 pub enum Form {
     Table0,
     Table10,
+    Table20,
+    Table30,
+    Table30V6,
     Table50,
     FlowDel,
     Port,
+    Route,
     List,
     GroupDel,
 }
 
-const FORMS: [(Form, &str); 7] = [
+const FORMS: [(Form, &str); 11] = [
     (Form::Table0, "table 0"),
     (Form::Table10, "table 10"),
+    (Form::Table20, "table 20"),
+    (Form::Table30, "table 30 and IPv4"),
+    (Form::Table30V6, "table 30 and IPv6"),
     (Form::Table50, "table 50"),
     (Form::FlowDel, "flow del"),
     (Form::Port, "a group of type 0"),
+    (Form::Route, "a group of type 2"),
     (Form::List, "a group of type 3 or 4"),
     (Form::GroupDel, "group del"),
 ];
 
 impl Form {
+    /// By CMD_TYPE, TBL, ETHERTYPE and the type of the group.
+    pub fn of(code: u16, table: u16, v6: bool, kind: u32) -> Form {
+        match code {
+            5 => Form::FlowDel,
+            9 => Form::GroupDel,
+            3 | 4 => match table {
+                10 => Form::Table10,
+                20 => Form::Table20,
+                30 if v6 => Form::Table30V6,
+                30 => Form::Table30,
+                50 => Form::Table50,
+                _ => Form::Table0,
+            },
+            _ if kind == 0 => Form::Port,
+            _ if kind == 2 => Form::Route,
+            _ => Form::List,
+        }
+    }
+
+    /// The types that must not be there: those of the other EtherType.
+    pub fn excludes(self) -> &'static [u32] {
+        match self {
+            Form::Table30 => &[DST_IPV6, DST_IPV6_MASK],
+            Form::Table30V6 => &[DST_IP, DST_IP_MASK],
+            _ => &[],
+        }
+    }
+
     /// The types that are listed for it.
     pub fn uses(self) -> &'static [u32] {
         match self {
@@ -634,11 +854,40 @@ impl Form {
                 GOTO_TBL,
                 NEW_VLAN_ID,
             ],
+            Form::Table20 => &[
+                TBL, PRIORITY, HARDTIME, IDLETIME, COOKIE, IN_PPORT, ETHERTYPE, DST_MAC, VLAN_ID,
+                GOTO_TBL,
+            ],
+            Form::Table30 => &[
+                TBL,
+                PRIORITY,
+                HARDTIME,
+                IDLETIME,
+                COOKIE,
+                ETHERTYPE,
+                DST_IP,
+                DST_IP_MASK,
+                GOTO_TBL,
+                GROUP_ID,
+            ],
+            Form::Table30V6 => &[
+                TBL,
+                PRIORITY,
+                HARDTIME,
+                IDLETIME,
+                COOKIE,
+                ETHERTYPE,
+                DST_IPV6,
+                DST_IPV6_MASK,
+                GOTO_TBL,
+                GROUP_ID,
+            ],
             Form::Table50 => &[
                 TBL, PRIORITY, HARDTIME, IDLETIME, COOKIE, VLAN_ID, DST_MAC, GOTO_TBL, GROUP_ID,
             ],
             Form::FlowDel => &[COOKIE],
             Form::Port => &[GROUP_ID, OUT_PPORT, POP_VLAN],
+            Form::Route => &[GROUP_ID, GROUP_ID_LOWER, VLAN_ID, SRC_MAC, DST_MAC],
             Form::List => &[GROUP_ID, GROUP_COUNT, GROUP_IDS],
             Form::GroupDel => &[GROUP_ID],
         }
@@ -646,7 +895,7 @@ impl Form {
 }
 
 /// The fields of CMD_INFO with their widths; a nest has none.
-pub const FIELDS: [(u32, &str, Option<usize>); 16] = [
+pub const FIELDS: [(u32, &str, Option<usize>); 23] = [
     (TBL, "TBL", Some(2)),
     (PRIORITY, "PRIORITY", Some(4)),
     (HARDTIME, "HARDTIME", Some(4)),
@@ -657,11 +906,18 @@ pub const FIELDS: [(u32, &str, Option<usize>); 16] = [
     (OUT_PPORT, "OUT_PPORT", Some(4)),
     (GOTO_TBL, "GOTO_TBL", Some(2)),
     (GROUP_ID, "GROUP_ID", Some(4)),
+    (GROUP_ID_LOWER, "GROUP_ID_LOWER", Some(4)),
     (GROUP_COUNT, "GROUP_COUNT", Some(2)),
     (GROUP_IDS, "GROUP_IDS", None),
     (VLAN_ID, "VLAN_ID", Some(2)),
     (NEW_VLAN_ID, "NEW_VLAN_ID", Some(2)),
+    (ETHERTYPE, "ETHERTYPE", Some(2)),
     (DST_MAC, "DST_MAC", Some(6)),
+    (SRC_MAC, "SRC_MAC", Some(6)),
+    (DST_IP, "DST_IP", Some(4)),
+    (DST_IP_MASK, "DST_IP_MASK", Some(4)),
+    (DST_IPV6, "DST_IPV6", Some(16)),
+    (DST_IPV6_MASK, "DST_IPV6_MASK", Some(16)),
     (POP_VLAN, "POP_VLAN", Some(1)),
 ];
 
@@ -675,9 +931,24 @@ pub enum How {
     OddTaken,
     TwiceTaken,
     MissingTaken,
+    // Of one that must not be there:
+    OtherSkipped,
+    OtherOddSkipped,
+    OtherTwiceSkipped,
 }
 
 impl How {
+    const ALL: [How; 8] = [
+        How::OddRefused,
+        How::TwiceRefused,
+        How::OddTaken,
+        How::TwiceTaken,
+        How::MissingTaken,
+        How::OtherSkipped,
+        How::OtherOddSkipped,
+        How::OtherTwiceSkipped,
+    ];
+
     fn words(self) -> (&'static str, &'static str) {
         match self {
             How::OddRefused => ("OddRefused", "is not used, but refused with another width"),
@@ -685,20 +956,28 @@ impl How {
             How::OddTaken => ("OddTaken", "is taken with another width"),
             How::TwiceTaken => ("TwiceTaken", "is taken if it comes twice"),
             How::MissingTaken => ("MissingTaken", "may be missing"),
+            How::OtherSkipped => ("OtherSkipped", "may be there and is skipped"),
+            How::OtherOddSkipped => ("OtherOddSkipped", "is skipped with another width"),
+            How::OtherTwiceSkipped => ("OtherTwiceSkipped", "is skipped if it comes twice"),
         }
     }
 
     /// Whether it says something of a field in a form. Optional fields cannot be missing by mistake, nor have nests a width.
     fn concerns(self, form: Form, kind: u32) -> bool {
-        let optional = [HARDTIME, IDLETIME, NEW_VLAN_ID, DST_MAC].contains(&kind)
-            || (form, kind) == (Form::Table50, GROUP_ID);
+        let optional = [HARDTIME, IDLETIME, NEW_VLAN_ID].contains(&kind)
+            || (form, kind) == (Form::Table50, DST_MAC)
+            || kind == GROUP_ID && [Form::Table30, Form::Table30V6, Form::Table50].contains(&form);
         // Without these the form would be another one.
-        let decides = kind == TBL && form != Form::Table0 || (form, kind) == (Form::List, GROUP_ID);
+        let decides = kind == TBL && form != Form::Table0
+            || kind == GROUP_ID && [Form::Route, Form::List].contains(&form)
+            || (form, kind) == (Form::Table30V6, ETHERTYPE);
+        let excluded = form.excludes().contains(&kind);
         match self {
-            How::OddRefused | How::TwiceRefused => !form.uses().contains(&kind),
+            How::OddRefused | How::TwiceRefused => !form.uses().contains(&kind) && !excluded,
             How::OddTaken => form.uses().contains(&kind) && kind != GROUP_IDS,
             How::TwiceTaken => form.uses().contains(&kind),
             How::MissingTaken => form.uses().contains(&kind) && !optional && !decides,
+            How::OtherSkipped | How::OtherOddSkipped | How::OtherTwiceSkipped => excluded,
         }
     }
 }
@@ -724,13 +1003,7 @@ pub fn all() -> Vec<(Label, String, String)> {
     }
     for (form, told) in FORMS {
         for (kind, field, _) in FIELDS {
-            for how in [
-                How::OddRefused,
-                How::TwiceRefused,
-                How::OddTaken,
-                How::TwiceTaken,
-                How::MissingTaken,
-            ] {
+            for how in How::ALL {
                 if how.concerns(form, kind) {
                     let (short, long) = how.words();
                     let name = format!("{form:?}:{field}:{short}");
@@ -779,15 +1052,17 @@ mod tests {
     }
 
     #[test]
-    fn fields_that_are_not_used_make_78_pairs() {
+    fn fields_that_are_not_used_make_180_pairs() {
         let refused = |how| {
             all()
                 .iter()
                 .filter(|(label, _, _)| matches!(label, Label::InForm(_, _, h) if *h == how))
                 .count()
         };
-        assert_eq!(refused(How::OddRefused), 78);
-        assert_eq!(refused(How::TwiceRefused), 78);
+        assert_eq!(refused(How::OddRefused), 180);
+        assert_eq!(refused(How::TwiceRefused), 180);
+        // Two of the other EtherType for each of the two.
+        assert_eq!(refused(How::OtherSkipped), 4);
     }
 
     #[test]

@@ -49,11 +49,18 @@ pub mod field {
     pub const OUT_PPORT: u32 = 8;
     pub const GOTO_TBL: u32 = 9;
     pub const GROUP_ID: u32 = 10;
+    pub const GROUP_ID_LOWER: u32 = 11;
     pub const GROUP_COUNT: u32 = 12;
     pub const GROUP_IDS: u32 = 13;
     pub const VLAN_ID: u32 = 14;
     pub const NEW_VLAN_ID: u32 = 19;
+    pub const ETHERTYPE: u32 = 23;
     pub const DST_MAC: u32 = 24;
+    pub const SRC_MAC: u32 = 26;
+    pub const DST_IP: u32 = 36;
+    pub const DST_IP_MASK: u32 = 37;
+    pub const DST_IPV6: u32 = 38;
+    pub const DST_IPV6_MASK: u32 = 39;
     pub const POP_VLAN: u32 = 43;
 }
 
@@ -63,6 +70,105 @@ pub const CMD_INFO: u32 = 2;
 
 pub const FLOW_LIMIT: usize = 256;
 pub const GROUP_LIMIT: usize = 128;
+
+/// The two EtherTypes that are routed.
+#[derive(Clone, Copy, Debug, PartialEq, Eq)]
+pub enum EtherType {
+    Ipv4 = 0x0800,
+    Ipv6 = 0x86dd,
+}
+
+impl EtherType {
+    pub fn of(number: u16) -> Option<EtherType> {
+        match number {
+            0x86dd if misread(L::EtherTypeIpv6Refused) => None,
+            0x0800 => Some(EtherType::Ipv4),
+            0x86dd => Some(EtherType::Ipv6),
+            _ => None,
+        }
+    }
+
+    /// As it stands in a frame and in a field.
+    pub fn bytes(self) -> [u8; 2] {
+        (self as u16).to_be_bytes()
+    }
+
+    /// The fields of its address and mask, and how wide each is.
+    pub fn pair(self) -> ([u32; 2], usize) {
+        match self {
+            EtherType::Ipv4 => ([field::DST_IP, field::DST_IP_MASK], 4),
+            EtherType::Ipv6 => ([field::DST_IPV6, field::DST_IPV6_MASK], 16),
+        }
+    }
+
+    pub fn other(self) -> EtherType {
+        match self {
+            EtherType::Ipv4 => EtherType::Ipv6,
+            EtherType::Ipv6 => EtherType::Ipv4,
+        }
+    }
+}
+
+/// An address and its mask, 4 or 16 bytes each, in wire order. The address is kept as it was given.
+#[derive(Clone, Debug, PartialEq, Eq)]
+pub struct Prefix {
+    pub address: Vec<u8>,
+    pub mask: Vec<u8>,
+}
+
+impl Prefix {
+    /// How many bits are compared.
+    pub fn length(&self) -> u32 {
+        self.mask.iter().map(|byte| byte.count_ones()).sum()
+    }
+}
+
+/// Ones, then zeros; all of either too.
+pub fn is_prefix_mask(mask: &[u8]) -> bool {
+    let bits = || {
+        mask.iter()
+            .flat_map(|byte| (0..8).rev().map(move |k| byte >> k & 1))
+    };
+    let ones = bits().take_while(|bit| *bit == 1).count();
+    match () {
+        _ if misread(L::MaskAny) => true,
+        _ if misread(L::MaskSuffix) => bits().skip_while(|bit| *bit == 0).all(|bit| bit == 1),
+        _ if misread(L::MaskWholeBytes) && ones % 8 != 0 => false,
+        _ if misread(L::MaskAllRefused) && ones == 8 * mask.len() => false,
+        _ if misread(L::Mask0Refused) && ones == 0 => false,
+        _ if misread(L::MaskLastBitFree) => bits()
+            .take(8 * mask.len() - 1)
+            .skip(ones)
+            .all(|bit| bit == 0),
+        _ if misread(L::MaskByFirst4Bytes) && mask.len() == 16 => {
+            bits().take(32).skip(ones).all(|bit| bit == 0)
+        }
+        _ => bits().skip(ones).all(|bit| bit == 0),
+    }
+}
+
+/// Asked of an address as it was given, also of bits outside its mask.
+fn is_unicast(ethertype: EtherType, prefix: &Prefix) -> bool {
+    let mut first = prefix.address[0];
+    if misread(L::UnicastUnderMask) {
+        first &= prefix.mask[0];
+    }
+    match (ethertype, first) {
+        _ if misread(L::MulticastTaken) => true,
+        (EtherType::Ipv4, 0) if misread(L::Ipv4First0Refused) => false,
+        (EtherType::Ipv4, 127) if misread(L::Ipv4First127Refused) => false,
+        (EtherType::Ipv4, 223) if misread(L::Ipv4First223Refused) => false,
+        (EtherType::Ipv4, 224) if misread(L::Ipv4First224Taken) => true,
+        (EtherType::Ipv4, 240..) if misread(L::Ipv4First240Taken) => true,
+        (EtherType::Ipv4, 255) if misread(L::Ipv4First255Taken) => true,
+        (EtherType::Ipv6, 254) if misread(L::Ipv6FirstFeRefused) => false,
+        (EtherType::Ipv6, 224..) if misread(L::Ipv6First224Refused) => false,
+        (EtherType::Ipv6, 255) if misread(L::Ipv6FirstFfTaken) => true,
+        (EtherType::Ipv6, 0) if misread(L::Ipv6First0Refused) => false,
+        (EtherType::Ipv4, first) => first < 224,
+        (EtherType::Ipv6, first) => first != 0xff,
+    }
+}
 
 /// What a flow compares, by table, with the data that belongs to that table.
 #[derive(Clone, Debug, PartialEq, Eq)]
@@ -74,6 +180,19 @@ pub enum Match {
         port: u32,
         vlan: u16,
         new_vlan: Option<u16>,
+    },
+    /// Table 20.
+    Termination {
+        port: u32,
+        ethertype: EtherType,
+        mac: [u8; 6],
+        vlan: u16,
+    },
+    /// Table 30.
+    Route {
+        ethertype: EtherType,
+        prefix: Prefix,
+        group: Option<u32>,
     },
     /// Table 50.
     Bridge {
@@ -96,6 +215,13 @@ pub struct Flow {
 pub enum Group {
     /// Type 0: one port.
     Port { port: u16, pop: u8 },
+    /// Type 2: new MACs, a VLAN and a group of type 0 of that VLAN.
+    Route {
+        lower: u32,
+        vlan: u16,
+        source: [u8; 6],
+        destination: [u8; 6],
+    },
     /// Types 3 and 4: group IDs of type 0, in their order.
     List { members: Vec<u32> },
 }
@@ -218,7 +344,9 @@ impl Tables {
             return Err(Status::Enotsup);
         }
         let begins_with_tbl = info.starts_with(&[1, 0, 0, 0, 2 + version.counted() as u8, 0]);
-        let other_table = info.get(8).is_some_and(|low| ![0, 10, 50].contains(low));
+        let other_table = info
+            .get(8)
+            .is_some_and(|low| !known_table(u16::from(*low), version));
         if code < 5
             && begins_with_tbl
             && other_table
@@ -274,11 +402,23 @@ impl Tables {
         let id = match u32::from_le_bytes(fields.need(field::GROUP_ID)?) {
             id if misread(L::GroupDelAnyType) && is_vlan(id_vlan(id)) => id,
             id if misread(L::GroupDelAnyVlan) && [0, 3, 4].contains(&id_type(id)) => id,
+            id if misread(L::Type2DelAsksVlan) && id_type(id) == 2 && !is_vlan(id_vlan(id)) => {
+                return Err(Status::Einval)
+            }
+            id if misread(L::Type2DelRefused) && id_type(id) == 2 => return Err(Status::Einval),
+            id if misread(L::OldType2Deleted) && id_type(id) == 2 => id,
             _ => group_id(fields)?,
         };
-        let names =
-            |flow: &Flow| matches!(flow.matching, Match::Bridge { group, .. } if group == Some(id));
+        let names = |flow: &Flow| match flow.matching {
+            Match::Bridge { group, .. } | Match::Route { group, .. } => group == Some(id),
+            _ => false,
+        };
         match () {
+            _ if misread(L::GroupDelDropsType2) => {
+                let above =
+                    |group: &Group| matches!(group, Group::Route { lower, .. } if *lower == id);
+                self.groups.retain(|_, group| !above(group));
+            }
             _ if misread(L::GroupDelLowBits) && u32::from(id_low(id)) > self.ports => {
                 return Err(Status::Einval)
             }
@@ -377,6 +517,7 @@ impl Tables {
         let onward = match table {
             0 => 10,
             10 => 20,
+            20 => 30,
             _ => 60,
         };
         let cookie = key(u64::from_le_bytes(fields.need(field::COOKIE)?));
@@ -396,17 +537,28 @@ impl Tables {
             matching: match table {
                 0 => self.ingress_match(fields)?,
                 10 => self.vlan_match(fields)?,
+                20 => self.termination_match(fields)?,
+                30 => route_match(fields, &self.groups)?,
                 _ => self.bridge_match(fields)?,
             },
         };
         let goes = match (table, flow.goto) {
+            (20, 0) if misread(L::Table20Goto0) => true,
             (_, 0) if misread(L::Goto0Refused) => false,
-            (_, 10 | 20 | 50 | 60) if misread(L::GotoAnyTable) => true,
+            (_, 10 | 20 | 30 | 50 | 60) if misread(L::GotoAnyTable) => true,
             (0, 50) if misread(L::Table0Goto50) => true,
             (0, 20) if misread(L::Table0Goto20) => true,
             (10, 50) if misread(L::Table10Goto50) => true,
+            (10, 30) if misread(L::Table10Goto30) => true,
             (10, 10) if misread(L::Table10Goto10) => true,
+            (20, 40) if misread(L::Table20Goto40) => true,
+            (20, 50) if misread(L::Table20Goto50) => true,
+            (20, 60) if misread(L::Table20Goto60) => true,
+            (30, 50) if misread(L::Table30Goto50) => true,
+            (30, 0) if misread(L::Table30Goto0Refused) => false,
             (50, 20) if misread(L::Table50Goto20) => true,
+            // A hit in table 20 is always routed.
+            (20, goto) => goto == onward,
             (_, goto) => goto == 0 || goto == onward,
         };
         if !goes {
@@ -471,6 +623,53 @@ impl Tables {
         })
     }
 
+    fn termination_match(&self, fields: &Fields) -> Result<Match, Status> {
+        let mut port = u32::from_le_bytes(fields.need(field::IN_PPORT)?);
+        let ethertype = ethertype(fields)?;
+        let mac = fields.need::<6>(field::DST_MAC)?;
+        let vlan = u16::from_be_bytes(fields.need(field::VLAN_ID)?);
+        if misread(L::Table20PortBy16Bits) {
+            port &= 0xffff;
+        }
+        let known = match port {
+            0 if misread(L::Table20Port0) => true,
+            1 if misread(L::Table20Port1Refused) => false,
+            _ if misread(L::Table20LastPortRefused) && port == self.ports => false,
+            _ if misread(L::Table20PortAbove) && port == self.ports + 1 => true,
+            _ if misread(L::Table20AnyPort) => true,
+            _ => self.is_port(port),
+        };
+        let edges = [
+            L::Table20Vlan0,
+            L::Table20Vlan1Refused,
+            L::Table20Vlan4094Refused,
+            L::Table20Vlan4095,
+        ];
+        let masks = [7, 15, 25];
+        let partly = |kind: &u32| {
+            fields
+                .peek::<2>(*kind)
+                .is_some_and(|mask| mask != [0xff; 2])
+        };
+        let out = fields.peek(field::OUT_PPORT).map(u32::from_le_bytes);
+        let refused = match () {
+            _ if misread(L::Table20MacEven) => mac[0] % 2 == 1,
+            _ if misread(L::Table20MacNot0) => mac == [0; 6],
+            _ if misread(L::Table20Masks) => masks.iter().any(partly),
+            _ if misread(L::Table20OutPport) => out.is_some_and(|port| port != 0),
+            _ => false,
+        };
+        if !known || !is_vlan_but(vlan, edges) || refused {
+            return Err(Status::Einval);
+        }
+        Ok(Match::Termination {
+            port,
+            ethertype,
+            mac,
+            vlan,
+        })
+    }
+
     fn bridge_match(&self, fields: &Fields) -> Result<Match, Status> {
         let mut vlan = u16::from_be_bytes(fields.need(field::VLAN_ID)?);
         if misread(L::VlanBy12Bits) {
@@ -488,6 +687,7 @@ impl Tables {
             None if misread(L::NoMacType3) => &[3, 4],
             None if misread(L::NoMacType4Refused) => &[],
             None => &[4],
+            Some(_) if !odd && misread(L::EvenMacType2) => &[0, 2],
             Some(_) if !odd && misread(L::EvenMacType3) => &[0, 3],
             Some(_) if !odd && misread(L::EvenMacType4) => &[0, 4],
             Some(_) if !odd => &[0],
@@ -528,8 +728,9 @@ impl Tables {
     fn group(&self, fields: &Fields) -> Result<(u32, Group), Status> {
         let id = group_id(fields)?;
         fields.skipped()?;
-        let one_port = id_type(id) == 0 || misread(L::GroupType2) && id_type(id) == 2;
-        let group = if one_port {
+        let group = if id_type(id) == 2 {
+            self.route_group(id, fields)?
+        } else if id_type(id) == 0 {
             let port = u32::from_le_bytes(fields.need(field::OUT_PPORT)?);
             let [pop] = fields.need(field::POP_VLAN)?;
             let known = match port {
@@ -588,6 +789,49 @@ impl Tables {
         Ok((id, group))
     }
 
+    /// A group of type 2. The lower group needs not exist, and its low bits may be no port.
+    fn route_group(&self, id: u32, fields: &Fields) -> Result<Group, Status> {
+        let lower = u32::from_le_bytes(fields.need(field::GROUP_ID_LOWER)?);
+        let vlan = u16::from_be_bytes(fields.need(field::VLAN_ID)?);
+        let source = fields.need::<6>(field::SRC_MAC)?;
+        let destination = fields.need::<6>(field::DST_MAC)?;
+        let edges = [
+            L::Type2Vlan0,
+            L::Type2Vlan1Refused,
+            L::Type2Vlan4094Refused,
+            L::Type2Vlan4095,
+        ];
+        let typed = match id_type(lower) {
+            2 if misread(L::LowerType2) => true,
+            3 | 4 if misread(L::LowerList) => true,
+            kind => kind == 0,
+        };
+        let same_vlan = id_vlan(lower) == vlan || misread(L::LowerAnyVlan);
+        let pop = fields.peek(field::POP_VLAN).map(|[pop]: [u8; 1]| pop);
+        let refused = match () {
+            _ if misread(L::Type2VlanInId) => id_vlan(id) != vlan,
+            _ if misread(L::LowerExists) => !self.groups.contains_key(&lower),
+            _ if misread(L::LowerLowBits) => u32::from(id_low(lower)) > self.ports,
+            _ if misread(L::LowerHostRefused) => id_low(lower) == 0,
+            _ if misread(L::Type2SourceEven) => source[0] % 2 == 1,
+            _ if misread(L::Type2DestinationEven) => destination[0] % 2 == 1,
+            _ if misread(L::Type2SourceNot0) => source == [0; 6],
+            _ if misread(L::Type2DestinationNot0) => destination == [0; 6],
+            _ if misread(L::Type2MacsDiffer) => source == destination,
+            _ if misread(L::Type2Pop) => pop.is_some_and(|pop| pop > 1),
+            _ => false,
+        };
+        if !is_vlan_but(vlan, edges) || !typed || !same_vlan || refused {
+            return Err(Status::Einval);
+        }
+        Ok(Group::Route {
+            lower,
+            vlan,
+            source,
+            destination,
+        })
+    }
+
     /// The member list: nothing in it is skipped, and members need not exist.
     fn members(
         &self,
@@ -638,6 +882,7 @@ impl Tables {
             };
             let typed = match () {
                 _ if misread(L::MembersAnyGroupType) => true,
+                _ if misread(L::MembersType2) && id_type(id) == 2 => true,
                 _ if misread(L::MembersSameType) => id_type(id) == id_type(group),
                 _ => id_type(id) == 0,
             };
@@ -670,6 +915,8 @@ impl Flow {
         match self.matching {
             Match::Ingress { .. } => 0,
             Match::Vlan { .. } => 10,
+            Match::Termination { .. } => 20,
+            Match::Route { .. } => 30,
             Match::Bridge { .. } => 50,
         }
     }
@@ -698,6 +945,22 @@ impl Flow {
                 *group = group.or(*old_group);
             }
         }
+        if let (
+            Match::Route { group, prefix, .. },
+            Match::Route {
+                group: old_group,
+                prefix: old_prefix,
+                ..
+            },
+        ) = (&mut self.matching, &old.matching)
+        {
+            if misread(L::ModKeepsRouteGroup) {
+                *group = group.or(*old_group);
+            }
+            if misread(L::ModKeepsPrefix) && prefix.mask.len() == old_prefix.mask.len() {
+                prefix.clone_from(old_prefix);
+            }
+        }
     }
 }
 
@@ -705,6 +968,27 @@ impl Group {
     /// What misreadings keep of the group that a mod replaces.
     fn mismodify(&mut self, old: &Group) {
         match (self, old) {
+            (
+                Group::Route {
+                    lower,
+                    vlan,
+                    source,
+                    destination,
+                },
+                Group::Route {
+                    lower: old_lower,
+                    vlan: old_vlan,
+                    source: old_source,
+                    destination: old_destination,
+                },
+            ) => match () {
+                _ if misread(L::GroupModKeepsLower) => {
+                    (*lower, *vlan) = (*old_lower, *old_vlan);
+                }
+                _ if misread(L::GroupModKeepsSource) => *source = *old_source,
+                _ if misread(L::GroupModKeepsDestination) => *destination = *old_destination,
+                _ => {}
+            },
             (Group::Port { pop, .. }, Group::Port { pop: old, .. }) => {
                 if misread(L::GroupModKeepsPop) {
                     *pop = *old;
@@ -739,9 +1023,83 @@ fn key(cookie: u64) -> u64 {
     cookie
 }
 
+/// The tables that there are. Versions 1 and 2 have neither 20 nor 30.
+fn known_table(table: u16, version: Version) -> bool {
+    match table {
+        0 | 10 | 50 => true,
+        20 if misread(L::Table20Enotsup) => false,
+        30 if misread(L::Table30Enotsup) => false,
+        20 if misread(L::OldTable20) => true,
+        30 if misread(L::OldTable30) => true,
+        20 | 30 => version.routes(),
+        _ => false,
+    }
+}
+
+/// ETHERTYPE, which is one of two.
+fn ethertype(fields: &Fields) -> Result<EtherType, Status> {
+    let number = u16::from_be_bytes(fields.need(field::ETHERTYPE)?);
+    match EtherType::of(number) {
+        None if misread(L::EtherTypeAny) => Ok(EtherType::Ipv4),
+        None if misread(L::EtherType0806) && number == 0x0806 => Ok(EtherType::Ipv4),
+        None if misread(L::EtherType8847) && number == 0x8847 => Ok(EtherType::Ipv4),
+        ethertype => ethertype.ok_or(Status::Einval),
+    }
+}
+
+/// The address and mask of the flow's ETHERTYPE, without those of the other one.
+fn route_match(fields: &Fields, groups: &BTreeMap<u32, Group>) -> Result<Match, Status> {
+    let ethertype = ethertype(fields)?;
+    let (others, width) = ethertype.other().pair();
+    for kind in others {
+        fields.absent(kind, width)?;
+    }
+    let ([address, mask], _) = ethertype.pair();
+    let prefix = match ethertype {
+        EtherType::Ipv4 => Prefix {
+            address: fields.need::<4>(address)?.to_vec(),
+            mask: fields.need::<4>(mask)?.to_vec(),
+        },
+        EtherType::Ipv6 => Prefix {
+            address: fields.need::<16>(address)?.to_vec(),
+            mask: fields.need::<16>(mask)?.to_vec(),
+        },
+    };
+    let group = fields.maybe(field::GROUP_ID)?.map(u32::from_le_bytes);
+    let typed = group.is_none_or(|id| match id_type(id) {
+        0 if misread(L::RouteGroupType0) => true,
+        3 | 4 if misread(L::RouteGroupList) => true,
+        _ if misread(L::RouteGroup0None) && id == 0 => true,
+        kind => kind == 2,
+    });
+    let outside = || {
+        let mut bits = prefix.address.iter().zip(&prefix.mask);
+        bits.any(|(address, mask)| address & !mask != 0)
+    };
+    let vlan = fields.peek(field::VLAN_ID).map(u16::from_be_bytes);
+    let refused = match group {
+        _ if misread(L::AddressBitsOutside) => outside(),
+        _ if misread(L::RouteVlan) => vlan.is_some_and(|vlan| !is_vlan(vlan)),
+        None => misread(L::RouteGroupRequired),
+        Some(id) if misread(L::RouteGroupExists) => !groups.contains_key(&id),
+        Some(id) if misread(L::Type2AsksVlan) => !is_vlan(id_vlan(id)),
+        Some(id) if misread(L::Type2IndexBy16Bits) => id & 0x0fff_0000 != 0,
+        Some(_) => false,
+    };
+    if !is_prefix_mask(&prefix.mask) || !is_unicast(ethertype, &prefix) || !typed || refused {
+        return Err(Status::Einval);
+    }
+    Ok(Match::Route {
+        ethertype,
+        prefix,
+        group: group.filter(|id| *id != 0 || !misread(L::RouteGroup0None)),
+    })
+}
+
 /// TBL. A table that is not there comes before every fault of other fields.
 fn table(fields: &Fields) -> Result<u16, Status> {
-    let known = |table: u16| [0, 10, 50].contains(&table);
+    let version = fields.version();
+    let known = |table: u16| known_table(table, version);
     let first = fields.peek(field::TBL).map(u16::from_le_bytes);
     match first {
         Some(table) if misread(L::TableBeforeForm) && !known(table) => return Err(Status::Enotsup),
@@ -749,7 +1107,7 @@ fn table(fields: &Fields) -> Result<u16, Status> {
         _ => {}
     }
     let table = match u16::from_le_bytes(fields.need(field::TBL)?) {
-        20 if misread(L::Table20Taken) => 10,
+        40 if misread(L::Table40Taken) => 30,
         60 if misread(L::Table60Taken) => 50,
         table => table,
     };
@@ -760,7 +1118,7 @@ fn table(fields: &Fields) -> Result<u16, Status> {
         fields.need::<8>(field::COOKIE)?;
         fields.need::<4>(field::PRIORITY)?;
     }
-    if misread(L::TableEinval) {
+    if misread(L::TableEinval) || misread(L::OldTableEinval) && [20, 30].contains(&table) {
         return Err(Status::Einval);
     }
     Err(Status::Enotsup)
@@ -807,15 +1165,27 @@ fn put<K: Ord, V>(
     Ok(())
 }
 
-/// A group's own ID; the low bits are left to the type's own checks.
+/// A group's own ID; the low bits are left to the type's own checks. One of type 2 has an index in all other bits, and no VLAN.
 fn group_id(fields: &Fields) -> Result<u32, Status> {
     let id = u32::from_le_bytes(fields.need(field::GROUP_ID)?);
     let known = match id_type(id) {
         1 if misread(L::GroupType1) => true,
-        2 if misread(L::GroupType2) => true,
+        2 if misread(L::GroupType2Refused) => false,
+        2 if misread(L::OldType2Enotsup) && !fields.version().routes() => {
+            return Err(Status::Enotsup)
+        }
+        2 => fields.version().routes() || misread(L::OldType2),
         5 if misread(L::GroupType5) => true,
         kind => [0, 3, 4].contains(&kind),
     };
+    if known && id_type(id) == 2 {
+        return match id {
+            _ if misread(L::Type2AsksVlan) && !is_vlan(id_vlan(id)) => Err(Status::Einval),
+            _ if misread(L::Type2IndexBy16Bits) && id & 0x0fff_0000 != 0 => Err(Status::Einval),
+            0x2000_0000 if misread(L::Type2Index0Refused) => Err(Status::Einval),
+            _ => Ok(id),
+        };
+    }
     let edges = [
         L::GroupVlan0,
         L::GroupVlan1Refused,

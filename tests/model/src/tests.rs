@@ -1,10 +1,11 @@
-//! Cases from the build description, chapter by chapter, and from requests 2026-06 and 2026-02.
+//! Cases from the build description, chapter by chapter, and from requests 2026-06, 2026-02 and 2026-03.
 
 mod calls;
 mod commands;
 mod coverage;
 mod frames;
 mod lengths;
+mod routes;
 mod trail;
 mod undo;
 
@@ -147,4 +148,62 @@ fn flow_50(
         fields.push((10, group));
     }
     payload(3, &fields)
+}
+
+fn flow_20(cookie: u64, port: u32, ethertype: u16, mac: [u8; 6], vlan: u16) -> Vec<u8> {
+    payload(
+        3,
+        &[
+            (1, &[20, 0]),
+            (2, &[0; 4]),
+            (5, &cookie.to_le_bytes()),
+            (6, &port.to_le_bytes()),
+            (23, &ethertype.to_be_bytes()),
+            (24, &mac),
+            (14, &vlan.to_be_bytes()),
+            (9, &[30, 0]),
+        ],
+    )
+}
+
+/// A route to an address and its mask, of 4 or of 16 bytes.
+fn flow_30(
+    cookie: u64,
+    priority: u32,
+    (address, mask): (Vec<u8>, Vec<u8>),
+    group: Option<u32>,
+    goto: u16,
+) -> Vec<u8> {
+    let (ethertype, first): ([u8; 2], u32) = match address.len() {
+        4 => ([0x08, 0x00], 36),
+        _ => ([0x86, 0xdd], 38),
+    };
+    let (priority, cookie) = (priority.to_le_bytes(), cookie.to_le_bytes());
+    let (goto, group) = (goto.to_le_bytes(), group.map(u32::to_le_bytes));
+    let mut fields: Vec<(u32, &[u8])> = vec![
+        (1, &[30, 0]),
+        (2, &priority),
+        (5, &cookie),
+        (23, &ethertype),
+        (first, &address),
+        (first + 1, &mask),
+        (9, &goto),
+    ];
+    if let Some(group) = &group {
+        fields.push((10, group));
+    }
+    payload(3, &fields)
+}
+
+fn route_group(code: u16, id: u32, lower: u32, vlan: u16, source: [u8; 6], to: [u8; 6]) -> Vec<u8> {
+    payload(
+        code,
+        &[
+            (10, &id.to_le_bytes()),
+            (11, &lower.to_le_bytes()),
+            (14, &vlan.to_be_bytes()),
+            (26, &source),
+            (24, &to),
+        ],
+    )
 }

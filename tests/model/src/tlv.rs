@@ -2,34 +2,50 @@
 
 use crate::misread::{misread, Form, How, Label as L, FIELDS};
 use crate::recount::nest;
-use crate::tables::{field, id_type, Status, CMD_INFO, CMD_TYPE};
+use crate::tables::{field, id_type, EtherType, Status, CMD_INFO, CMD_TYPE};
 
-/// The version of a trail, which says what a TLV's length counts.
+/// The version of a trail, which says what a TLV's length counts and which tables and group types there are.
 #[derive(Clone, Copy, Debug, PartialEq, Eq)]
 pub enum Version {
     /// The value alone, as in the build description.
     One = 1,
     /// The header and the value, as in request 2026-02.
     Two = 2,
+    /// The same, with tables 20 and 30 and group type 2, as in request 2026-03.
+    Three = 3,
 }
 
 impl Version {
     /// What a device obeys, and what it writes.
-    pub const DEVICE: Version = Version::Two;
+    pub const DEVICE: Version = Version::Three;
+
+    /// All that are known.
+    pub const ALL: [Version; 3] = [Version::One, Version::Two, Version::Three];
 
     /// How many header bytes a length counts beside the value.
     pub fn counted(self) -> usize {
         match self {
             Version::One => 0,
             Version::Two => HEAD,
+            Version::Three if misread(L::Version3LengthsOld) => 0,
+            Version::Three => HEAD,
         }
     }
 
-    /// The other one that is known; for misreadings and makers of input.
+    /// Whether it has tables 20 and 30 and group type 2.
+    pub fn routes(self) -> bool {
+        match self {
+            Version::One => misread(L::Version1Routes),
+            Version::Two => misread(L::Version2Routes),
+            Version::Three => true,
+        }
+    }
+
+    /// One with the other meaning of lengths; for misreadings and makers of input.
     pub fn other(self) -> Version {
         match self {
             Version::One => Version::Two,
-            Version::Two => Version::One,
+            Version::Two | Version::Three => Version::One,
         }
     }
 }
@@ -161,20 +177,21 @@ fn value_length(length: usize, kind: u32, version: Version, place: Place) -> Len
 /// How many header bytes a length counts: those of its version, unless that is
 /// misread for this region, for nests or for short lengths.
 fn counted(length: usize, kind: u32, version: Version, place: Place) -> usize {
-    let (old, new) = (Version::One.counted(), Version::Two.counted());
+    let (old, new) = (0, HEAD);
     match (version, place) {
         (Version::One, Place::Top) if misread(L::OldTopNew) => new,
         (Version::One, Place::Info) if misread(L::OldInfoNew) => new,
         (Version::One, Place::Members) if misread(L::OldMembersNew) => new,
         (Version::One, _) if misread(L::OldNestNew) && is_nest(kind, place) => new,
-        (Version::Two, Place::Top) if misread(L::TopOld) => old,
-        (Version::Two, Place::Info) if misread(L::InfoOld) => old,
-        (Version::Two, Place::Members) if misread(L::MembersOld) => old,
-        (Version::Two, _) if misread(L::NestOld) && is_nest(kind, place) => old,
-        (Version::Two, _) if misread(L::UnlistedOld) && !is_listed(kind, place) => old,
-        (Version::Two, _) if misread(L::Under8Old) && length < new => old,
-        (Version::Two, Place::Members) if misread(L::Under8MembersOld) && length < new => old,
-        (Version::Two, _) if misread(L::LengthWithoutPad) => 6,
+        (Version::One, _) => version.counted(),
+        (_, Place::Top) if misread(L::TopOld) => old,
+        (_, Place::Info) if misread(L::InfoOld) => old,
+        (_, Place::Members) if misread(L::MembersOld) => old,
+        _ if misread(L::NestOld) && is_nest(kind, place) => old,
+        _ if misread(L::UnlistedOld) && !is_listed(kind, place) => old,
+        _ if misread(L::Under8Old) && length < new => old,
+        (_, Place::Members) if misread(L::Under8MembersOld) && length < new => old,
+        _ if misread(L::LengthWithoutPad) => 6,
         _ => version.counted(),
     }
 }
@@ -197,7 +214,7 @@ pub fn ends_under_8(region: &[u8], version: Version, place: Place) -> bool {
     let good = (0..=region.len() / 8).rev().map(|end| 8 * end);
     let good = good.filter(|end| split(&region[..*end], version, place).is_some());
     let rest = good.max().map_or(&[][..], |end| &region[end..]);
-    version == Version::Two && rest.len() >= HEAD && rest[4] < 8 && rest[5] == 0
+    version != Version::One && rest.len() >= HEAD && rest[4] < 8 && rest[5] == 0
 }
 
 /// A well formed region whose fields are asked for by type. Only what is asked
@@ -238,15 +255,8 @@ impl<'a> Fields<'a> {
         };
         let table = fields.peek(field::TBL).map_or(0, u16::from_le_bytes);
         let id = fields.peek(field::GROUP_ID).map_or(0, u32::from_le_bytes);
-        fields.form = Some(match code {
-            5 => Form::FlowDel,
-            9 => Form::GroupDel,
-            3 | 4 if table == 10 => Form::Table10,
-            3 | 4 if table == 50 => Form::Table50,
-            3 | 4 => Form::Table0,
-            _ if id_type(id) == 0 => Form::Port,
-            _ => Form::List,
-        });
+        let v6 = fields.peek(field::ETHERTYPE) == Some(EtherType::Ipv6.bytes());
+        fields.form = Some(Form::of(code, table, v6, id_type(id)));
         Ok(fields)
     }
 
@@ -347,7 +357,7 @@ impl<'a> Fields<'a> {
     /// As `maybe`, but a missing field is EINVAL too.
     pub fn need<const N: usize>(&self, kind: u32) -> Result<[u8; N], Status> {
         match self.maybe(kind)? {
-            None if self.misreads(kind, How::MissingTaken) => Ok(instead(kind)),
+            None if self.misreads(kind, How::MissingTaken) => Ok(instead(self.form, kind)),
             value => value.ok_or(Status::Einval),
         }
     }
@@ -358,9 +368,26 @@ impl<'a> Fields<'a> {
             // A member of port 1 in VLAN 1.
             None if self.misreads(kind, How::MissingTaken) => Ok(match self.version {
                 Version::One => &[1, 0, 0, 0, 4, 0, 0, 0, 1, 0, 1, 0, 0, 0, 0, 0],
-                Version::Two => &[1, 0, 0, 0, 12, 0, 0, 0, 1, 0, 1, 0, 0, 0, 0, 0],
+                _ => &[1, 0, 0, 0, 12, 0, 0, 0, 1, 0, 1, 0, 0, 0, 0, 0],
             }),
             value => value.ok_or(Status::Einval),
+        }
+    }
+
+    /// A field that must not be there, whatever its width and however often it comes.
+    pub fn absent(&self, kind: u32, width: usize) -> Result<(), Status> {
+        let values: Vec<&[u8]> = self
+            .tlvs
+            .iter()
+            .filter(|tlv| tlv.kind == kind)
+            .map(|tlv| tlv.value)
+            .collect();
+        match values[..] {
+            [] => Ok(()),
+            _ if self.misreads(kind, How::OtherSkipped) => Ok(()),
+            [one] if self.misreads(kind, How::OtherOddSkipped) && one.len() != width => Ok(()),
+            [_, _, ..] if self.misreads(kind, How::OtherTwiceSkipped) => Ok(()),
+            _ => Err(Status::Einval),
         }
     }
 
@@ -371,12 +398,15 @@ impl<'a> Fields<'a> {
 }
 
 /// What a misreading takes for a missing field.
-fn instead<const N: usize>(kind: u32) -> [u8; N] {
+fn instead<const N: usize>(form: Option<Form>, kind: u32) -> [u8; N] {
     let mut bytes = [0; N];
     match kind {
         field::IN_PPORT | field::GROUP_COUNT => bytes[0] = 1,
         field::VLAN_ID => bytes[1] = 1,
-        field::IN_PPORT_MASK => bytes.fill(0xff),
+        field::ETHERTYPE => bytes[0] = 8,
+        field::GOTO_TBL if form == Some(Form::Table20) => bytes[0] = 30,
+        field::IN_PPORT_MASK | field::DST_IP_MASK | field::DST_IPV6_MASK => bytes.fill(0xff),
+        field::GROUP_ID_LOWER => bytes[2] = 1,
         field::GROUP_ID => bytes[2] = 1,
         _ => {}
     }
@@ -386,14 +416,15 @@ fn instead<const N: usize>(kind: u32) -> [u8; N] {
 #[cfg(test)]
 mod tests {
     use super::*;
-    use Version::{One, Two};
+    use Version::{One, Three, Two};
 
     const PLACES: [Place; 3] = [Place::Top, Place::Info, Place::Members];
 
-    /// The types and values of a region, the same in whatever place it stands.
+    /// The types and values of a region, the same in whatever place it stands, and in version 3 as in version 2.
     fn tlvs(region: &[u8], version: Version) -> Option<Vec<(u32, &[u8])>> {
         let [top, info, members] = PLACES.map(|place| split(region, version, place));
         assert!(top == info && info == members);
+        assert!(version == One || top == split(region, Three, Place::Top));
         top.map(|tlvs| tlvs.iter().map(|tlv| (tlv.kind, tlv.value)).collect())
     }
 

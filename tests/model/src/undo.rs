@@ -185,6 +185,28 @@ fn flow_fields(cookie: u64, flow: &Flow) -> Fields {
             fields.push((field::VLAN_ID, vlan.to_be_bytes().to_vec()));
             fields.extend(new_vlan.map(|new| (field::NEW_VLAN_ID, new.to_be_bytes().to_vec())));
         }
+        Match::Termination {
+            port,
+            ethertype,
+            mac,
+            vlan,
+        } => {
+            fields.push((field::IN_PPORT, port.to_le_bytes().to_vec()));
+            fields.push((field::VLAN_ID, vlan.to_be_bytes().to_vec()));
+            fields.push((field::ETHERTYPE, ethertype.bytes().to_vec()));
+            fields.push((field::DST_MAC, mac.to_vec()));
+        }
+        Match::Route {
+            ethertype,
+            ref prefix,
+            group,
+        } => {
+            let ([address, mask], _) = ethertype.pair();
+            fields.push((field::ETHERTYPE, ethertype.bytes().to_vec()));
+            fields.push((address, prefix.address.clone()));
+            fields.push((mask, prefix.mask.clone()));
+            fields.extend(group.map(|id| (field::GROUP_ID, id.to_le_bytes().to_vec())));
+        }
         Match::Bridge { vlan, mac, group } => {
             fields.push((field::VLAN_ID, vlan.to_be_bytes().to_vec()));
             fields.extend(mac.map(|mac| (field::DST_MAC, mac.to_vec())));
@@ -203,6 +225,17 @@ fn group_fields(id: u32, group: &Group) -> Fields {
             let port = u32::from(id_low(id));
             fields.push((field::OUT_PPORT, port.to_le_bytes().to_vec()));
             fields.push((field::POP_VLAN, vec![*pop]));
+        }
+        Group::Route {
+            lower,
+            vlan,
+            source,
+            destination,
+        } => {
+            fields.push((field::GROUP_ID_LOWER, lower.to_le_bytes().to_vec()));
+            fields.push((field::VLAN_ID, vlan.to_be_bytes().to_vec()));
+            fields.push((field::SRC_MAC, source.to_vec()));
+            fields.push((field::DST_MAC, destination.to_vec()));
         }
         Group::List { members } => {
             let count = members.len() as u16;

@@ -6,7 +6,7 @@ use super::Rng;
 use crate::journal;
 use crate::misread::{Form, FIELDS};
 use crate::recount::{older, recount};
-use crate::tables::{field, id_low, id_type, id_vlan, Tables};
+use crate::tables::{field, id_low, id_type, id_vlan, EtherType, Match, Prefix, Tables};
 use crate::tables::{CMD_INFO, CMD_TYPE};
 use crate::tlv::{Place, Version, HEAD};
 
@@ -40,7 +40,7 @@ pub fn encode(fields: &[Field], pad: u16, fill: u8) -> Vec<u8> {
 pub fn written(payload: &[u8], version: Version) -> Vec<u8> {
     match version {
         Version::One => older(payload),
-        Version::Two => payload.to_vec(),
+        Version::Two | Version::Three => payload.to_vec(),
     }
 }
 
@@ -103,6 +103,104 @@ pub const MACS: [[u8; 6]; 6] = [
     [0x33, 0x33, 0, 0, 0, 1],
 ];
 
+/// The MACs that table 20 mostly has: a router's, one that is bridged too, and an odd one.
+pub const ROUTERS: [[u8; 6]; 3] = [[0x02, 0x99, 0, 0, 0, 1], MACS[0], [0x01, 0, 0x5e, 0, 0, 1]];
+
+/// Addresses that prefixes are made of: they have much in common, and stand at the edges.
+pub const IPV4: [[u8; 4]; 10] = [
+    [127, 0, 0, 1],
+    [10, 1, 2, 3],
+    [10, 1, 2, 4],
+    [10, 1, 3, 3],
+    [10, 1, 130, 3],
+    [10, 2, 2, 3],
+    [11, 1, 2, 3],
+    [192, 168, 0, 1],
+    [223, 255, 255, 255],
+    [0, 0, 0, 0],
+];
+const NET: [u8; 8] = [0x20, 0x01, 0x0d, 0xb8, 0, 0, 0, 0];
+const LINK: [u8; 8] = [0xfe, 0x80, 0, 0, 0, 0, 0, 0];
+
+pub fn ipv4(rng: &mut Rng) -> Vec<u8> {
+    match rng.chance(90) {
+        true => rng.pick(&IPV4).to_vec(),
+        false => (rng.next() as u32).to_be_bytes().to_vec(),
+    }
+}
+
+pub fn ipv6(rng: &mut Rng) -> Vec<u8> {
+    let mut out = rng.pick(&[NET, NET, NET, LINK, [0; 8]]).to_vec();
+    out[5] = rng.pick(&[0, 0, 0, 1]);
+    out[7] = rng.pick(&[0, 0, 1, 0x80]);
+    out.extend(rng.pick(&[1u64, 2, 0x0200_00ff_fe00_0001, 0]).to_be_bytes());
+    out
+}
+
+/// An address of a kind.
+pub fn address(rng: &mut Rng, ethertype: EtherType) -> Vec<u8> {
+    match ethertype {
+        EtherType::Ipv4 => ipv4(rng),
+        EtherType::Ipv6 => ipv6(rng),
+    }
+}
+
+pub fn ethertype(rng: &mut Rng) -> EtherType {
+    rng.pick(&[EtherType::Ipv4, EtherType::Ipv6])
+}
+
+/// A mask of so many ones.
+pub fn mask(width: usize, ones: u32) -> Vec<u8> {
+    let bits = |at: u32| match ones.saturating_sub(8 * at) {
+        0 => 0,
+        rest @ 1..=7 => 0xff << (8 - rest),
+        _ => 0xff,
+    };
+    (0..width as u32).map(bits).collect()
+}
+
+/// A prefix that is right: often one that meets the others, at times with bits outside its mask.
+pub fn prefix(rng: &mut Rng, ethertype: EtherType) -> Prefix {
+    let (_, width) = ethertype.pair();
+    let ones = match ethertype {
+        EtherType::Ipv4 => rng.pick(&[0, 1, 8, 9, 15, 16, 17, 23, 24, 24, 25, 31, 32, 32]),
+        EtherType::Ipv6 => rng.pick(&[0, 1, 8, 31, 32, 33, 48, 63, 64, 64, 65, 127, 128, 128]),
+    };
+    let (mut address, mask) = (address(rng, ethertype), mask(width, ones));
+    if address[0] >= 224 && ethertype == EtherType::Ipv4 || address[0] == 0xff {
+        address[0] &= 0x7f;
+    }
+    if rng.chance(70) {
+        address
+            .iter_mut()
+            .zip(&mask)
+            .for_each(|(byte, mask)| *byte &= mask);
+    }
+    Prefix { address, mask }
+}
+
+/// The fields of a prefix, without those of the other EtherType.
+pub fn prefix_fields(ethertype: EtherType, prefix: &Prefix) -> Vec<Field> {
+    let ([address, mask], _) = ethertype.pair();
+    vec![
+        f(field::ETHERTYPE, ethertype.bytes()),
+        f(address, &prefix.address),
+        f(mask, &prefix.mask),
+    ]
+}
+
+pub fn route_id(index: u32) -> u32 {
+    2 << 28 | index & 0x0fff_ffff
+}
+
+pub fn route_index(rng: &mut Rng) -> u32 {
+    match rng.range(0, 9) {
+        0 => rng.next() as u32,
+        1 => rng.pick(&[0, 0x0fff_ffff, 0x0001_0000, 0x0fff_0000, 0x0800_0000]),
+        _ => rng.range(0, 12) as u32,
+    }
+}
+
 pub fn vlan(rng: &mut Rng) -> u16 {
     if rng.chance(95) {
         rng.pick(&VLANS)
@@ -159,6 +257,55 @@ pub fn flow(rng: &mut Rng, tables: &Tables, code: u16, cookie: u64, table: u16) 
                 fields.push(f(field::NEW_VLAN_ID, vlan(rng).to_be_bytes()));
             }
             20
+        }
+        20 => {
+            let mac = match rng.range(0, 9) {
+                0 => rng.pick(&MACS),
+                1 => rng.next().to_le_bytes()[..6].try_into().unwrap_or_default(),
+                _ => rng.pick(&ROUTERS),
+            };
+            // Mostly a VLAN that a frame has after table 10.
+            let ways: Vec<(u32, u16)> = tables
+                .flows
+                .values()
+                .filter_map(|flow| match flow.matching {
+                    Match::Vlan {
+                        port,
+                        vlan,
+                        new_vlan,
+                    } => Some((port, new_vlan.unwrap_or(vlan))),
+                    _ => None,
+                })
+                .collect();
+            let (port, vlan_id) = match ways.is_empty() || rng.chance(20) {
+                true => (port, vlan(rng)),
+                false => rng.pick(&ways),
+            };
+            fields.push(f(field::IN_PPORT, port.to_le_bytes()));
+            fields.push(f(field::ETHERTYPE, ethertype(rng).bytes()));
+            fields.push(f(field::DST_MAC, mac));
+            fields.push(f(field::VLAN_ID, vlan_id.to_be_bytes()));
+            fields.push(f(field::GOTO_TBL, [30, 0]));
+            return Command { code, fields };
+        }
+        30 => {
+            let ethertype = ethertype(rng);
+            let prefix = prefix(rng, ethertype);
+            fields.extend(prefix_fields(ethertype, &prefix));
+            if rng.chance(90) {
+                let live: Vec<u32> = tables
+                    .groups
+                    .keys()
+                    .copied()
+                    .filter(|id| id_type(*id) == 2)
+                    .collect();
+                let id = match !live.is_empty() && rng.chance(90) {
+                    true => rng.pick(&live),
+                    false => route_id(route_index(rng)),
+                };
+                fields.push(f(field::GROUP_ID, id.to_le_bytes()));
+            }
+            60
         }
         _ => {
             let vlan_id = vlan(rng);
@@ -227,7 +374,29 @@ pub fn member_ids(rng: &mut Rng, tables: &Tables, vlan: u16) -> Vec<u32> {
 /// A valid group with a given ID.
 pub fn group(rng: &mut Rng, tables: &Tables, code: u16, id: u32) -> Command {
     let mut fields = vec![f(field::GROUP_ID, id.to_le_bytes())];
-    if id_type(id) == 0 {
+    if id_type(id) == 2 {
+        let vlan_id = vlan(rng);
+        // Mostly a group that is there, at times one with low bits that are no port.
+        let live: Vec<u32> = tables
+            .groups
+            .keys()
+            .copied()
+            .filter(|id| id_type(*id) == 0)
+            .collect();
+        let lower = match !live.is_empty() && rng.chance(85) {
+            true => rng.pick(&live),
+            false => group_id(
+                0,
+                vlan_id,
+                rng.pick(&[0, 1, tables.ports as u16, 63, 0xffff]),
+            ),
+        };
+        let macs: [[u8; 6]; 5] = [MACS[0], MACS[2], MACS[3], [0; 6], [2, 0x77, 1, 2, 3, 4]];
+        fields.push(f(field::GROUP_ID_LOWER, lower.to_le_bytes()));
+        fields.push(f(field::VLAN_ID, id_vlan(lower).to_be_bytes()));
+        fields.push(f(field::SRC_MAC, rng.pick(&macs)));
+        fields.push(f(field::DST_MAC, rng.pick(&macs)));
+    } else if id_type(id) == 0 {
         fields.push(f(field::OUT_PPORT, u32::from(id_low(id)).to_le_bytes()));
         fields.push(f(field::POP_VLAN, [rng.range(0, 1) as u8]));
     } else {
@@ -239,6 +408,9 @@ pub fn group(rng: &mut Rng, tables: &Tables, code: u16, id: u32) -> Command {
 }
 
 pub fn fresh_group_id(rng: &mut Rng, ports: u32) -> u32 {
+    if rng.chance(rng.routing) {
+        return route_id(route_index(rng));
+    }
     let kind = rng.pick(&[0, 0, 0, 3, 4]);
     let low = match (kind, rng.chance(90)) {
         (0, _) => rng.range(0, u64::from(ports)) as u16,
@@ -256,7 +428,10 @@ pub fn live_key<K: Copy>(rng: &mut Rng, keys: impl Iterator<Item = K>, percent: 
 
 /// A command that is right in form; it may still miss or meet its key.
 pub fn command(rng: &mut Rng, tables: &Tables) -> Command {
-    let table = rng.pick(&[0, 10, 10, 50, 50]);
+    let table = match rng.chance(rng.routing) {
+        true => rng.pick(&[20, 30, 30]),
+        false => rng.pick(&[0, 10, 10, 50, 50]),
+    };
     match rng.range(0, 99) {
         0..=32 => {
             let key = live_key(rng, tables.flows.keys().copied(), 10);
@@ -332,7 +507,56 @@ pub fn edge_values(command: &Command, kind: u32, ports: u32) -> Vec<Vec<u8>> {
                 u32::MAX,
             ])
         }
-        field::GOTO_TBL => le16(&[0, 1, 10, 20, 50, 60, 0x0a00, 0x1400, 0x3c00, 0xffff]),
+        field::GOTO_TBL => le16(&[
+            0, 1, 10, 20, 30, 40, 50, 60, 0x0a00, 0x1400, 0x1e00, 0x3c00, 0xffff,
+        ]),
+        field::ETHERTYPE => be16(&[
+            0, 0x0800, 0x86dd, 0x0008, 0xdd86, 0x0806, 0x0801, 0x86dc, 0x8100, 0x8847, 0xffff,
+        ]),
+        field::GROUP_ID_LOWER => {
+            let old = command
+                .get(kind)
+                .map_or(0, |v| u32::from_le_bytes(v.try_into().unwrap_or_default()));
+            let mut ids: Vec<u32> = (0..16).map(|t| t << 28 | old & 0x0fff_ffff).collect();
+            for vlan in [0, 1, 2, 4094, 4095] {
+                ids.push(group_id(0, vlan, id_low(old)));
+            }
+            for low in [0, 1, ports as u16, ports as u16 + 1, 63, 0xffff] {
+                ids.push(old & 0xffff_0000 | u32::from(low));
+            }
+            ids.push(old.swap_bytes());
+            le32(&ids)
+        }
+        field::SRC_MAC => vec![
+            vec![0; 6],
+            vec![0xff; 6],
+            MACS[3].to_vec(),
+            MACS[0].to_vec(),
+        ],
+        field::DST_IP | field::DST_IPV6 => {
+            let old = command.get(kind).map(<[u8]>::to_vec).unwrap_or_default();
+            let firsts = [0, 1, 10, 127, 223, 224, 239, 240, 254, 255];
+            firsts
+                .iter()
+                .map(|first| [&[*first], &old[1..]].concat())
+                .collect()
+        }
+        field::DST_IP_MASK | field::DST_IPV6_MASK => {
+            let width = command.get(kind).map_or(4, <[u8]>::len);
+            let bits = 8 * width as u32;
+            let mut out: Vec<Vec<u8>> = [0, 1, 7, 8, 9, 31, 32, bits - 1, bits]
+                .iter()
+                .map(|ones| mask(width, *ones))
+                .collect();
+            // No prefixes: a bit missing, one too many, zeros and then ones.
+            for (ones, at) in [(24, 0), (24, 2), (8, 3), (0, width - 1), (16, 2), (bits, 1)] {
+                let mut other = mask(width, ones);
+                other[at] ^= 1;
+                out.push(other);
+            }
+            out.push(mask(width, 9).into_iter().rev().collect());
+            out
+        }
         field::VLAN_ID | field::NEW_VLAN_ID => {
             be16(&[0, 1, 2, 4094, 4095, 4096, 0x0100, 0x1001, 0xffff])
         }
@@ -506,7 +730,7 @@ pub fn length_edges(rng: &mut Rng, command: &Command) -> Vec<Vec<u8>> {
     let mut out = old_meaning(command);
     let unlisted = rng.pick(&[99, 99, 0, 3]);
     out.extend(other_lengths(rng, &command.payload(), unlisted));
-    let unlisted = rng.pick(&[99, 99, 0, 11, field::DST_MAC, field::POP_VLAN]);
+    let unlisted = rng.pick(&[99, 99, 0, 16, field::NEW_VLAN_ID, field::POP_VLAN]);
     for (k, nest) in (0..).zip(other_lengths(rng, &command.info(), unlisted)) {
         out.push(top(command.code, &nest));
         if k < 8 {
@@ -518,7 +742,7 @@ pub fn length_edges(rng: &mut Rng, command: &Command) -> Vec<Vec<u8>> {
         // A table that is not there comes after it.
         let mut other = command.clone();
         other.fields.swap(0, at);
-        other.fields[0].value = vec![rng.pick(&[20, 60]), 0];
+        other.fields[0].value = vec![rng.pick(&[40, 60]), 0];
         let under = head(99, rng.range(0, 7) as u16);
         out.push(top(command.code, &[other.info(), under].concat()));
     }
@@ -554,7 +778,7 @@ fn old_meaning(command: &Command) -> Vec<Vec<u8>> {
     let old = regions.map(|regions| {
         let mut out = payload.clone();
         let chosen = |place: Place, _| regions.contains(&place);
-        recount(&mut out, Place::Top, Version::Two, &chosen);
+        recount(&mut out, Place::Top, Version::DEVICE, &chosen);
         out
     });
     let nest = |kinds: &[u32]| {
@@ -564,7 +788,7 @@ fn old_meaning(command: &Command) -> Vec<Vec<u8>> {
             Place::Info => kind == field::GROUP_IDS && kinds.contains(&kind),
             Place::Members => false,
         };
-        recount(&mut out, Place::Top, Version::Two, &chosen);
+        recount(&mut out, Place::Top, Version::DEVICE, &chosen);
         out
     };
     let nests = [nest(&[CMD_INFO]), nest(&[field::GROUP_IDS])];
@@ -573,18 +797,19 @@ fn old_meaning(command: &Command) -> Vec<Vec<u8>> {
 
 /// The types that a command uses, by its code and table or group type.
 pub fn used(command: &Command) -> &'static [u32] {
+    form(command).uses()
+}
+
+fn form(command: &Command) -> Form {
     let table = command.get(field::TBL).map_or(0, |v| v[0]);
     let kind = command.get(field::GROUP_ID).map_or(0, |v| v[3] >> 4);
-    let form = match command.code {
-        5 => Form::FlowDel,
-        9 => Form::GroupDel,
-        3 | 4 if table == 0 => Form::Table0,
-        3 | 4 if table == 10 => Form::Table10,
-        3 | 4 => Form::Table50,
-        _ if kind == 0 => Form::Port,
-        _ => Form::List,
-    };
-    form.uses()
+    let v6 = command.get(field::ETHERTYPE) == Some(&EtherType::Ipv6.bytes());
+    Form::of(command.code, u16::from(table), v6, u32::from(kind))
+}
+
+/// Whether a command skips a type: it neither uses it nor asks that it is not there.
+pub fn skips(command: &Command, kind: u32) -> bool {
+    !used(command).contains(&kind) && !form(command).excludes().contains(&kind)
 }
 
 /// A command with what it has to skip between its fields: fields that it does
@@ -598,7 +823,7 @@ pub fn with_skipped(rng: &mut Rng, command: &Command) -> Vec<u8> {
     };
     for (kind, _, width) in FIELDS {
         let width = width.unwrap_or(16);
-        if !used(command).contains(&kind) && rng.chance(40) {
+        if skips(command, kind) && rng.chance(40) {
             for _ in 0..rng.range(1, 2) {
                 let width = rng.pick(&[width, width, width - 1, width + 1, 0]);
                 put(rng, &mut fields, kind, width);
@@ -678,6 +903,8 @@ pub fn variations(rng: &mut Rng, command: &Command, ports: u32) -> Vec<Vec<u8>> 
         let junk = rng.bytes(width.unwrap_or(16));
         out.push(with(&|fields| fields.push(f(kind, &junk))));
         if !used(command).contains(&kind) {
+            // Skipped, or refused if it is of the other EtherType.
+            out.push(with(&|fields| fields.push(f(kind, &junk[1..]))));
             out.push(with(&|fields| {
                 fields.insert(0, f(kind, &junk[1..]));
                 fields.push(f(kind, &junk));
@@ -685,7 +912,24 @@ pub fn variations(rng: &mut Rng, command: &Command, ports: u32) -> Vec<Vec<u8>> 
             }));
         }
     }
-    for kind in [0, 11, 15, 18, 20, 23, 25, 42, 44, 99, 1 << 16 | 1, u32::MAX] {
+    for kind in [
+        0,
+        15,
+        16,
+        18,
+        20,
+        22,
+        25,
+        27,
+        34,
+        35,
+        40,
+        42,
+        44,
+        99,
+        1 << 16 | 1,
+        u32::MAX,
+    ] {
         let junk = rng.range(0, 20) as usize;
         let junk = rng.bytes(junk);
         out.push(with(&|fields| {
@@ -818,9 +1062,31 @@ pub fn forms(rng: &mut Rng, tables: &Tables) -> Vec<Command> {
     };
     let v = vlan(rng);
     for code in [3, 4] {
-        for table in [0, 10, 50] {
+        for table in [0, 10, 20, 30, 50] {
             let cookie = key(rng);
             out.push(flow(rng, tables, code, cookie, table));
+        }
+        for ethertype in [EtherType::Ipv4, EtherType::Ipv6] {
+            let cookie = key(rng);
+            let mut command = flow(rng, tables, code, cookie, 20);
+            command.set(field::ETHERTYPE, ethertype.bytes());
+            out.push(command);
+            let cookie = key(rng);
+            let mut command = flow(rng, tables, code, cookie, 30);
+            let addresses = [
+                field::ETHERTYPE,
+                field::DST_IP,
+                field::DST_IP_MASK,
+                field::DST_IPV6,
+                field::DST_IPV6_MASK,
+            ];
+            command
+                .fields
+                .retain(|field| !addresses.contains(&field.kind));
+            let prefix = prefix(rng, ethertype);
+            command.fields.extend(prefix_fields(ethertype, &prefix));
+            command.set(field::GROUP_ID, route_id(route_index(rng)).to_le_bytes());
+            out.push(command);
         }
         for vlan_id in [0, v] {
             let cookie = key(rng);
@@ -863,10 +1129,14 @@ pub fn forms(rng: &mut Rng, tables: &Tables) -> Vec<Command> {
         code: 5,
         fields: vec![f(field::COOKIE, cookie.to_le_bytes())],
     });
-    for kind in [0, 3, 4] {
+    for kind in [0, 2, 3, 4] {
         for code in [7, 8, 9] {
             let low = rng.range(0, u64::from(tables.ports)) as u16;
-            let mut command = group(rng, tables, code, group_id(kind, v, low));
+            let id = match kind {
+                2 => route_id(route_index(rng)),
+                kind => group_id(kind, v, low),
+            };
+            let mut command = group(rng, tables, code, id);
             if code == 9 {
                 command.fields.truncate(1);
             }
@@ -901,7 +1171,95 @@ pub fn nearly_right(rng: &mut Rng, tables: &Tables) -> Vec<Vec<u8>> {
     let mut command = flow(rng, tables, 3, cookie, 10);
     command.set(field::IN_PPORT, 0x0001_0001u32.to_le_bytes());
     out.push(command.payload());
+    // Routes whose address is unicast under its mask alone, or without it alone.
+    for (address, ones) in [([224, 0, 0, 0], 0), ([255, 1, 2, 3], 1), ([10, 1, 2, 3], 0)] {
+        let prefix = Prefix {
+            address: address.to_vec(),
+            mask: mask(4, ones),
+        };
+        let command = route_command(rng, tables, cookie, EtherType::Ipv4, &prefix, None);
+        out.push(command.payload());
+    }
+    // Masks that are prefixes but for one bit behind, and groups of other types.
+    let bad: [(EtherType, usize, u8); 4] = [
+        (EtherType::Ipv4, 3, 0x01),
+        (EtherType::Ipv4, 2, 0xfd),
+        (EtherType::Ipv6, 15, 0x01),
+        (EtherType::Ipv6, 9, 0x10),
+    ];
+    for (ethertype, at, bits) in bad {
+        let mut prefix = prefix(rng, ethertype);
+        let width = prefix.mask.len();
+        prefix.mask = mask(width, if width == 4 { 24 } else { 64 });
+        prefix.mask[at] = bits;
+        out.push(route_command(rng, tables, cookie, ethertype, &prefix, None).payload());
+    }
+    let host = group_id(0, vlan, 0);
+    for id in [0, host, host | 3 << 28, host | 4 << 28, host | 1 << 28] {
+        let prefix = prefix(rng, EtherType::Ipv4);
+        let command = route_command(rng, tables, cookie, EtherType::Ipv4, &prefix, Some(id));
+        out.push(command.payload());
+    }
+    // Table 20 with a port that is one in its low bits, and with other tables to go to.
+    for (port, goto) in [
+        (0x0001_0001u32, 30u8),
+        (1, 0),
+        (1, 40),
+        (1, 50),
+        (1, 60),
+        (0, 30),
+    ] {
+        let mut command = flow(rng, tables, 3, cookie, 20);
+        command.set(field::IN_PPORT, port.to_le_bytes());
+        command.set(field::GOTO_TBL, [goto, 0]);
+        out.push(command.payload());
+    }
+    // A group of type 2 as a lower one, as a member and in table 50.
+    let route = host | 2 << 28;
+    for kind in [2, 3, 4] {
+        let id = route_id(rng.next() as u32);
+        let mut command = group(rng, tables, 7, id);
+        command.set(field::GROUP_ID_LOWER, (host | kind << 28).to_le_bytes());
+        command.set(field::VLAN_ID, vlan.to_be_bytes());
+        out.push(command.payload());
+    }
+    let mut list = group(rng, tables, 7, group_id(4, vlan, 0x2222));
+    list.set(field::GROUP_COUNT, [1, 0]);
+    list.set(field::GROUP_IDS, member_list(&[route]));
+    out.push(list.payload());
+    let mut bridge = flow(rng, tables, 3, cookie, 50);
+    bridge.set(field::VLAN_ID, vlan.to_be_bytes());
+    bridge.set(field::DST_MAC, MACS[0]);
+    bridge.set(field::GROUP_ID, route.to_le_bytes());
+    out.push(bridge.payload());
+    // A lower group of another VLAN, or a VLAN that has none.
+    for (lower, vlan_id) in [(vlan, vlan ^ 1), (0, 0), (4095, 4095), (vlan, vlan)] {
+        let id = route_id(rng.next() as u32);
+        let mut command = group(rng, tables, 7, id);
+        command.set(field::GROUP_ID_LOWER, group_id(0, lower, 1).to_le_bytes());
+        command.set(field::VLAN_ID, vlan_id.to_be_bytes());
+        out.push(command.payload());
+    }
     out
+}
+
+/// A route to a prefix, right in all else.
+pub fn route_command(
+    rng: &mut Rng,
+    tables: &Tables,
+    cookie: u64,
+    ethertype: EtherType,
+    prefix: &Prefix,
+    group: Option<u32>,
+) -> Command {
+    let mut command = flow(rng, tables, 3, cookie, 30);
+    let own = |kind: u32| !(36..=39).contains(&kind) && ![10, 23].contains(&kind);
+    command.fields.retain(|field| own(field.kind));
+    command.fields.extend(prefix_fields(ethertype, prefix));
+    if let Some(id) = group {
+        command.set(field::GROUP_ID, id.to_le_bytes());
+    }
+    command
 }
 
 /// Lists of 62 and 63 members that agree with their count.
@@ -931,7 +1289,10 @@ pub fn flow_fillers(rng: &mut Rng, tables: &Tables) -> Vec<Vec<u8>> {
     let missing = 256usize.saturating_sub(tables.flows.len());
     (0..missing as u64 + 3)
         .map(|at| {
-            let table = rng.pick(&[0, 10, 50]);
+            let table = match rng.chance(rng.routing) {
+                true => rng.pick(&[20, 30]),
+                false => rng.pick(&[0, 10, 50]),
+            };
             flow(rng, tables, 3, 0x1_0000 + at, table).payload()
         })
         .collect()
@@ -943,7 +1304,10 @@ pub fn group_fillers(rng: &mut Rng, tables: &Tables) -> Vec<Vec<u8>> {
     (0..missing as u16 + 3)
         .map(|at| {
             let kind = rng.pick(&[3, 4]);
-            let id = group_id(kind, vlan(rng), 1_000 + at);
+            let id = match rng.chance(rng.routing) {
+                true => route_id(1_000 + u32::from(at)),
+                false => group_id(kind, vlan(rng), 1_000 + at),
+            };
             group(rng, tables, 7, id).payload()
         })
         .collect()

@@ -4,7 +4,7 @@ use super::commands::*;
 use super::trail::{cut, spoil_header, spoil_lines};
 use super::Rng;
 use crate::journal;
-use crate::tables::{field, id_type, id_vlan, Flow, Group, Match, Status, Tables};
+use crate::tables::{field, id_type, id_vlan, Flow, Group, Match, Prefix, Status, Tables};
 use crate::tlv::Version;
 use crate::undo::check::{rooms, LONGEST_LIST};
 use crate::undo::undo;
@@ -61,9 +61,11 @@ pub fn asks(seed: u64) -> Vec<Ask> {
 pub fn evening(seed: u64) -> Evening {
     let mut rng = Rng::new(seed ^ 0x6576_656e_696e_6773).skipping(seed % 16 == 9);
     let ports = some_ports(&mut rng) as u8;
-    let version = rng.pick(&[Version::One, Version::Two]);
+    // Half of them are of the device's own.
+    let own = Version::DEVICE;
+    let version = rng.pick(&[Version::One, Version::Two, own, own]);
     let mut maker = Maker {
-        rng,
+        rng: rng.of_version(version),
         version,
         tables: Tables::empty(u32::from(ports)),
         lines: Vec::new(),
@@ -118,7 +120,7 @@ impl Maker {
         match rng.range(0, 9) {
             0..=2 => return cut(rng, &header, &self.lines),
             3..=5 => spoil_header(rng, &mut header),
-            6 => header[3] = self.version.other() as u8,
+            6 => header[3] = rng.pick(&[1, 2, 3]),
             _ => spoil_lines(rng, &mut self.lines, &self.tables, self.version),
         }
         [header, self.lines.concat()].concat()
@@ -185,7 +187,7 @@ impl Maker {
             .collect();
         self.rng.shuffle(&mut cookies);
         for cookie in cookies {
-            let table = self.rng.pick(&[0, 10, 50]);
+            let table = self.table();
             let payload = flow(&mut self.rng, &self.tables, 3, cookie, table).payload();
             self.carry_out(&payload);
         }
@@ -193,11 +195,20 @@ impl Maker {
         for at in first..first + 130 {
             let id = match at % 8 {
                 0 => group_id(0, at, self.rng.range(0, self.tables.ports.into()) as u16),
+                1 | 2 if self.version.routes() => route_id(u32::from(at) << 12 | 5),
                 _ => group_id(self.rng.pick(&[3, 4]), self.rng.pick(&VLANS), at),
             };
             // The last two find no room.
             let payload = group(&mut self.rng, &self.tables, 7, id).payload();
             self.carry_out(&payload);
+        }
+    }
+
+    /// A table that the trail's version has.
+    fn table(&mut self) -> u16 {
+        match self.version.routes() {
+            true => self.rng.pick(&[0, 10, 20, 30, 30, 50]),
+            false => self.rng.pick(&[0, 10, 50]),
         }
     }
 
@@ -276,21 +287,21 @@ impl Maker {
             return;
         };
         let rng = &mut self.rng;
-        match rng.range(0, 12) {
+        match rng.range(0, 15) {
             0 => changed.hard_time = rng.pick(&[0, 1, 60, u32::MAX]),
             1 => changed.idle_time = rng.pick(&[0, 1, 60, u32::MAX]),
             2 => (changed.hard_time, changed.idle_time) = (changed.idle_time, changed.hard_time),
             3 => changed.priority = priority(rng),
             4 => {
-                changed.goto = if changed.goto == 0 {
+                changed.goto = if changed.goto == 0 || changed.table() == 20 {
                     onward(&changed)
                 } else {
                     0
                 }
             }
             5 | 6 => {
-                let table = rng.pick(&[0, 10, 50]);
-                let payload = flow(rng, &self.tables, 4, cookie, table).payload();
+                let table = self.table();
+                let payload = flow(&mut self.rng, &self.tables, 4, cookie, table).payload();
                 return self.carry_out(&payload);
             }
             7 => return self.del_flow(cookie),
@@ -308,6 +319,21 @@ impl Maker {
         match &mut changed {
             _ if rng.chance(15) => return self.del_group(id),
             Group::Port { pop, .. } => *pop ^= 1,
+            Group::Route {
+                lower,
+                vlan: id,
+                source,
+                destination,
+            } => match rng.range(0, 5) {
+                0 => *source = rng.pick(&[[0; 6], MACS[0], MACS[3], ROUTERS[0]]),
+                1 => *destination = rng.pick(&[[0; 6], MACS[1], MACS[4], ROUTERS[0]]),
+                2 => (*source, *destination) = (*destination, *source),
+                3 => *lower ^= 1 << rng.range(0, 15),
+                _ => {
+                    *id = vlan(rng);
+                    *lower = group_id(0, *id, *lower as u16);
+                }
+            },
             Group::List { members } => match rng.range(0, 3) {
                 0 => members.reverse(),
                 1 => rng.shuffle(members),
@@ -354,7 +380,23 @@ fn onward(flow: &Flow) -> u16 {
     match flow.matching {
         Match::Ingress { .. } => 10,
         Match::Vlan { .. } => 20,
-        Match::Bridge { .. } => 60,
+        Match::Termination { .. } => 30,
+        Match::Route { .. } | Match::Bridge { .. } => 60,
+    }
+}
+
+/// Another mask, another address, or only bits of it that its mask leaves out.
+fn change_prefix(rng: &mut Rng, prefix: &mut Prefix) {
+    let width = prefix.mask.len();
+    let last = width - 1;
+    match rng.range(0, 3) {
+        0 => prefix.mask = mask(width, rng.range(0, 8 * width as u64) as u32),
+        1 => prefix.address[last] ^= 1 << rng.range(0, 7),
+        2 => prefix.address[1] ^= 1 << rng.range(0, 7),
+        _ => {
+            let at = rng.index(width - 1) + 1;
+            prefix.address[at] ^= !prefix.mask[at] & rng.next() as u8;
+        }
     }
 }
 
@@ -375,6 +417,31 @@ fn change_match(rng: &mut Rng, matching: &mut Match, ports: u32) {
             Some(_) => (*id, *new_vlan) = (vlan(rng), None),
             None if rng.chance(60) => (*id, *new_vlan) = (0, Some(vlan(rng))),
             None => *id = rng.range(1, 4094) as u16,
+        },
+        Match::Termination {
+            port,
+            ethertype,
+            mac,
+            vlan: id,
+        } => match rng.range(0, 3) {
+            0 => *port = rng.range(1, ports.into()) as u32,
+            1 => *ethertype = ethertype.other(),
+            2 => *mac = rng.pick(&[[0; 6], MACS[0], MACS[3], ROUTERS[0]]),
+            _ => *id = rng.range(1, 4094) as u16,
+        },
+        Match::Route {
+            ethertype,
+            prefix: to,
+            group,
+        } => match rng.range(0, 5) {
+            0 => (*ethertype, *to) = (ethertype.other(), prefix(rng, ethertype.other())),
+            1 | 2 => {
+                *group = match group {
+                    Some(_) if rng.chance(50) => None,
+                    _ => Some(route_id(route_index(rng))),
+                }
+            }
+            _ => change_prefix(rng, to),
         },
         Match::Bridge { mac: Some(mac), .. } if rng.chance(30) => {
             // The first byte stays even or odd.
@@ -430,6 +497,25 @@ fn flow_command(rng: &mut Rng, code: u16, cookie: u64, flow: &Flow) -> Vec<u8> {
             fields.push(f(field::VLAN_ID, vlan.to_be_bytes()));
             fields.extend(new_vlan.map(|new| f(field::NEW_VLAN_ID, new.to_be_bytes())));
         }
+        Match::Termination {
+            port,
+            ethertype,
+            mac,
+            vlan,
+        } => {
+            fields.push(f(field::IN_PPORT, port.to_le_bytes()));
+            fields.push(f(field::ETHERTYPE, ethertype.bytes()));
+            fields.push(f(field::DST_MAC, mac));
+            fields.push(f(field::VLAN_ID, vlan.to_be_bytes()));
+        }
+        Match::Route {
+            ethertype,
+            ref prefix,
+            group,
+        } => {
+            fields.extend(prefix_fields(ethertype, prefix));
+            fields.extend(group.map(|id| f(field::GROUP_ID, id.to_le_bytes())));
+        }
         Match::Bridge { vlan, mac, group } => {
             fields.push(f(field::VLAN_ID, vlan.to_be_bytes()));
             fields.extend(mac.map(|mac| f(field::DST_MAC, mac)));
@@ -446,6 +532,17 @@ fn group_command(code: u16, id: u32, group: &Group) -> Vec<u8> {
         Group::Port { port, pop } => {
             fields.push(f(field::POP_VLAN, [*pop]));
             fields.push(f(field::OUT_PPORT, u32::from(*port).to_le_bytes()));
+        }
+        Group::Route {
+            lower,
+            vlan,
+            source,
+            destination,
+        } => {
+            fields.push(f(field::SRC_MAC, source));
+            fields.push(f(field::DST_MAC, destination));
+            fields.push(f(field::VLAN_ID, vlan.to_be_bytes()));
+            fields.push(f(field::GROUP_ID_LOWER, lower.to_le_bytes()));
         }
         Group::List { members } => {
             fields.push(f(field::GROUP_IDS, member_list(members)));
@@ -492,6 +589,18 @@ pub fn met(then: &Tables, now: &Tables) -> Vec<(&'static str, u64)> {
             count(&flows, other_presence),
         ),
         ("flows that differ", count(&flows, |a, b| a != b)),
+        (
+            "routes that differ outside their masks alone",
+            count(&flows, other_bits),
+        ),
+        (
+            "flows of tables 20 and 30 that differ",
+            count(&flows, |a, b| a != b && [20, 30].contains(&a.table())),
+        ),
+        (
+            "groups of type 2 that differ",
+            count(&groups, |a, b| a != b && matches!(a, Group::Route { .. })),
+        ),
         ("groups with members reordered", count(&groups, reordered)),
         ("groups that differ", count(&groups, |a, b| a != b)),
     ]
@@ -509,16 +618,30 @@ fn other_times(a: &Flow, b: &Flow) -> bool {
 
 fn other_presence(a: &Flow, b: &Flow) -> bool {
     let present = |flow: &Flow| match flow.matching {
-        Match::Ingress { .. } => [false; 2],
+        Match::Ingress { .. } | Match::Termination { .. } => [false; 2],
         Match::Vlan { new_vlan, .. } => [new_vlan.is_some(), false],
+        Match::Route { group, .. } => [false, group.is_some()],
         Match::Bridge { mac, group, .. } => [mac.is_some(), group.is_some()],
     };
     a.table() == b.table() && present(a) != present(b)
 }
 
+/// Whether two routes differ in bits of the address that the mask leaves out, and in nothing else.
+fn other_bits(a: &Flow, b: &Flow) -> bool {
+    let masked = |flow: &Flow| {
+        let mut flow = flow.clone();
+        if let Match::Route { prefix, .. } = &mut flow.matching {
+            let bytes = prefix.address.iter_mut().zip(&prefix.mask);
+            bytes.for_each(|(byte, mask)| *byte &= mask);
+        }
+        flow
+    };
+    a != b && masked(a) == masked(b)
+}
+
 fn reordered(a: &Group, b: &Group) -> bool {
     let sorted = |group: &Group| match group {
-        Group::Port { .. } => Vec::new(),
+        Group::Port { .. } | Group::Route { .. } => Vec::new(),
         Group::List { members } => {
             let mut ids = members.clone();
             ids.sort();

@@ -4,8 +4,9 @@ use super::commands::*;
 use super::Rng;
 use crate::console::{hex, Console};
 use crate::device::Device;
+use crate::frame::LIST;
 use crate::registers::Ring;
-use crate::tables::{field, Match, Tables};
+use crate::tables::{field, EtherType, Match, Prefix, Tables};
 use std::fmt::Write as _;
 
 const CONTROL: u64 = 0x300;
@@ -372,7 +373,8 @@ impl Script {
             return self.oddities();
         }
         match self.rng.range(0, 199) {
-            0..=55 => self.commands(),
+            0..=50 => self.commands(),
+            51..=55 => self.studios(),
             56..=59 => self.lengths(),
             60..=99 => self.frames(),
             100..=117 => self.probe(),
@@ -380,7 +382,8 @@ impl Script {
             126..=131 => self.new_ring(),
             132..=141 => self.ports_change(),
             142..=146 => self.odd_lines(),
-            147..=152 => self.network(),
+            147..=149 => self.network(),
+            150..=152 => self.studios(),
             153..=157 => self.ties(),
             158..=164 => self.overlap(),
             165..=171 => self.refused_work(),
@@ -552,6 +555,15 @@ impl Script {
             let (macs, vlan) = (hex(&frame[..12]), hex(&vlan.to_be_bytes()));
             self.call(&format!("frame {port} {macs}{kind}{vlan}0800"));
         }
+        // A second tag stands where the EtherType would.
+        for _ in 0..3 {
+            if let Some((port, mut frame)) = self.routed_frame() {
+                if frame[12..14] == [0x81, 0] {
+                    frame.splice(16..16, [0x81, 0, 0, 1]);
+                }
+                self.call(&format!("frame {port} {}", hex(&frame)));
+            }
+        }
     }
 
     fn commands(&mut self) {
@@ -605,17 +617,136 @@ impl Script {
 
     fn frames(&mut self) {
         for _ in 0..self.rng.range(1, 8) {
-            let (mut port, mut frame) = self.frame();
+            let routed = self.rng.chance(45);
+            let (mut port, mut frame) = self.some_frame(routed);
             // Most frames match nothing, so some of these are thrown away.
             for _ in 0..6 {
-                let copies = self.device().frame(u64::from(port), &frame, &mut [0; 186]);
+                let copies = self.device().frame(u64::from(port), &frame, &mut [0; LIST]);
                 if copies != Ok(0) || self.rng.chance(15) {
                     break;
                 }
-                (port, frame) = self.frame();
+                (port, frame) = self.some_frame(routed);
             }
             self.send(u64::from(port), frame);
         }
+    }
+
+    fn some_frame(&mut self, routed: bool) -> (u32, Vec<u8>) {
+        let frame = if routed { self.routed_frame() } else { None };
+        frame.unwrap_or_else(|| self.frame())
+    }
+
+    /// A frame that table 20 is likely to route, to an address that table 30 is likely to have, with or without a tag, long enough or nearly
+    /// so. `None` where table 20 has no flow.
+    fn routed_frame(&mut self) -> Option<(u32, Vec<u8>)> {
+        let tables = self.tables();
+        let mut stops = Vec::new();
+        for flow in tables.flows.values() {
+            if let Match::Termination {
+                port,
+                ethertype,
+                mac,
+                vlan,
+            } = flow.matching
+            {
+                stops.push((port, ethertype, mac, vlan));
+            }
+        }
+        if stops.is_empty() {
+            return None;
+        }
+        // One that a frame can come to is a better choice.
+        let tags = |port: u32, inner: u16| -> Vec<u16> {
+            let flows = tables.flows.values();
+            flows
+                .filter_map(|flow| match flow.matching {
+                    Match::Vlan {
+                        port: p,
+                        vlan,
+                        new_vlan,
+                    } if p == port => (new_vlan.unwrap_or(vlan) == inner).then_some(vlan),
+                    _ => None,
+                })
+                .collect()
+        };
+        let reached: Vec<_> = stops
+            .iter()
+            .copied()
+            .filter(|(port, _, _, vlan)| !tags(*port, *vlan).is_empty())
+            .collect();
+        let (port, mut ethertype, mac, vlan) = match reached.is_empty() || self.rng.chance(5) {
+            true => self.rng.pick(&stops),
+            false => self.rng.pick(&reached),
+        };
+        let tags = tags(port, vlan);
+        let tag = match tags.is_empty() || self.rng.chance(5) {
+            true => vlan,
+            false => self.rng.pick(&tags),
+        };
+        if self.rng.chance(8) {
+            ethertype = ethertype.other();
+        }
+        let routes: Vec<Prefix> = tables
+            .flows
+            .values()
+            .filter_map(|flow| match &flow.matching {
+                Match::Route {
+                    ethertype: own,
+                    prefix,
+                    ..
+                } if *own == ethertype => Some(prefix.clone()),
+                _ => None,
+            })
+            .collect();
+        let mut to = address(&mut self.rng, ethertype);
+        if !routes.is_empty() && self.rng.chance(85) {
+            let prefix = self.rng.pick(&routes);
+            let whole = self.rng.chance(40);
+            for (at, byte) in to.iter_mut().enumerate() {
+                let mask = if whole { 0xff } else { prefix.mask[at] };
+                *byte = prefix.address[at] & mask | *byte & !mask;
+            }
+        }
+        match self.rng.range(0, 24) {
+            0 => {
+                let at = self.rng.index(to.len());
+                to[at] ^= 1 << self.rng.range(0, 7);
+            }
+            // A multicast address, which a route to all takes.
+            1 => to[0] = self.rng.pick(&[224, 239, 255]),
+            _ => {}
+        }
+        let mut frame = mac.to_vec();
+        if self.rng.chance(4) {
+            frame[self.rng.index(6)] ^= 1;
+        }
+        frame.extend(self.rng.bytes(6));
+        if tag != 0 || self.rng.chance(20) {
+            let bits = self.rng.pick(&[0u16, 0, 0x1000, 0xf000]);
+            frame.extend([0x81, 0x00]);
+            frame.extend((tag | bits).to_be_bytes());
+        }
+        frame.extend(ethertype.bytes());
+        let (least, at) = match ethertype {
+            EtherType::Ipv4 => (20, 16),
+            EtherType::Ipv6 => (40, 24),
+        };
+        let mut header = self.rng.bytes(least);
+        header[at..].copy_from_slice(&to);
+        if self.rng.chance(50) {
+            header[0] = if least == 20 { 0x45 } else { 0x60 };
+        }
+        let more = self.rng.range(0, 20) as usize;
+        header.extend(self.rng.bytes(more));
+        match self.rng.range(0, 15) {
+            0 => header.truncate(least - 1),
+            1 => header.truncate(least),
+            2 => header.resize(least + 1, 0),
+            3 => header.truncate(self.rng.range(0, least as u64) as usize),
+            _ => {}
+        }
+        frame.extend(header);
+        Some((port, frame))
     }
 
     /// A frame that is likely to match what is live.
@@ -685,15 +816,15 @@ impl Script {
             7 => port = 0,
             8 => port = self.ports() + 1,
             9 => port |= 1 << 32,
-            10 => list = " 185".to_string(),
-            11 => list = " 186".to_string(),
-            12 => list = " 512".to_string(),
+            10 => list = " 557".to_string(),
+            11 => list = " 558".to_string(),
+            12 => list = self.rng.pick(&[" 1024", " 559", " 186"]).to_string(),
             13 => list = " 0".to_string(),
             14 => {
                 // Several at once.
                 frame.truncate(self.rng.range(0, 20) as usize);
                 port = self.rng.range(0, self.ports() + 1);
-                list = self.rng.pick(&["", " 185"]).to_string();
+                list = self.rng.pick(&["", " 557"]).to_string();
             }
             _ => {}
         }
@@ -952,8 +1083,8 @@ impl Script {
             "frame 1".to_string(),
             "frame 1 0".to_string(),
             "frame 1 0g".to_string(),
-            "frame 1 00 513".to_string(),
-            "frame 1 00 186 1".to_string(),
+            "frame 1 00 1025".to_string(),
+            "frame 1 00 558 1".to_string(),
             "fresh 4".to_string(),
             "fresh 4 18446744073709551616".to_string(),
             "memory 1048577".to_string(),
@@ -1058,7 +1189,10 @@ impl Script {
         let tables = self.tables();
         let ports = u64::from(tables.ports);
         let vlan = vlan(&mut self.rng);
-        let table = self.rng.pick(&[0, 10, 50, 50]);
+        let table = self.rng.pick(&[0, 10, 30, 30, 50, 50]);
+        if table == 30 {
+            return self.route_ties();
+        }
         let port = self.rng.range(1, ports) as u32;
         let mut cookies: Vec<u64> = (0..self.rng.range(2, 5))
             .map(|_| cookie(&mut self.rng))
@@ -1110,6 +1244,210 @@ impl Script {
                 frame.extend(tag.to_be_bytes());
             }
             frame.extend([8, 0]);
+            self.call(&format!("frame {port} {}", hex(&frame)));
+        }
+        self.frames();
+    }
+
+    /// A studio's way to its router: a flow of table 10, one of table 20 for each EtherType, and perhaps the same MAC bridged.
+    fn stop(&mut self, port: u32, tag: u16, vlan: u16, mac: [u8; 6]) -> Vec<Vec<u8>> {
+        let tables = self.tables();
+        let mut out = Vec::new();
+        let mut way = flow(&mut self.rng, &tables, 3, 0x2000 + u64::from(port), 10);
+        way.fields.retain(|field| field.kind != field::NEW_VLAN_ID);
+        way.set(field::IN_PPORT, port.to_le_bytes());
+        way.set(field::VLAN_ID, tag.to_be_bytes());
+        way.set(field::GOTO_TBL, [20, 0]);
+        if tag == 0 {
+            way.set(field::NEW_VLAN_ID, vlan.to_be_bytes());
+        }
+        out.push(way.payload());
+        for (k, ethertype) in (0..).zip([EtherType::Ipv4, EtherType::Ipv6]) {
+            let cookie = 0x2100 + 2 * u64::from(port) + k;
+            let mut command = flow(&mut self.rng, &tables, 3, cookie, 20);
+            command.set(field::IN_PPORT, port.to_le_bytes());
+            command.set(field::ETHERTYPE, ethertype.bytes());
+            command.set(field::DST_MAC, mac);
+            command.set(field::VLAN_ID, vlan.to_be_bytes());
+            out.push(command.payload());
+        }
+        out
+    }
+
+    /// A group of type 2 that leads to a port, with MACs of its own.
+    fn neighbour(&mut self, index: u32, lower: u32) -> Vec<u8> {
+        let tables = self.tables();
+        let mut command = group(&mut self.rng, &tables, 7, route_id(index));
+        command.set(field::GROUP_ID_LOWER, lower.to_le_bytes());
+        command.set(field::VLAN_ID, crate::tables::id_vlan(lower).to_be_bytes());
+        command.set(field::SRC_MAC, ROUTERS[0]);
+        command.set(field::DST_MAC, [2, 0x55, 0, 0, index as u8, lower as u8]);
+        command.payload()
+    }
+
+    fn route(
+        &mut self,
+        cookie: u64,
+        ethertype: EtherType,
+        prefix: &Prefix,
+        id: Option<u32>,
+    ) -> Command {
+        let tables = self.tables();
+        let mut command = route_command(&mut self.rng, &tables, cookie, ethertype, prefix, id);
+        let goto = self.rng.pick(&[60u16, 60, 60, 60, 60, 60, 60, 0]);
+        command.set(field::GOTO_TBL, goto.to_le_bytes());
+        command
+    }
+
+    /// Studios in VLANs of their own, a router between them, prefixes that overlap, and frames to all of them.
+    fn studios(&mut self) {
+        if self.rng.chance(70) {
+            self.open_ports(95);
+        }
+        let tables = self.tables();
+        let ports = u64::from(tables.ports);
+        let (first, second) = (vlan(&mut self.rng), vlan(&mut self.rng));
+        let mac = self.rng.pick(&ROUTERS);
+        let mut payloads = Vec::new();
+        let port = self.rng.range(1, ports) as u32;
+        let tag = self.rng.pick(&[0, first]);
+        payloads.extend(self.stop(port, tag, first, mac));
+        let mut lowers = vec![group_id(0, first, port as u16), group_id(0, second, 0)];
+        for vlan in [first, second] {
+            lowers.push(group_id(0, vlan, self.rng.range(0, ports) as u16));
+        }
+        for lower in &lowers {
+            payloads.push(group(&mut self.rng, &tables, 7, *lower).payload());
+        }
+        // One of them is not there.
+        lowers.push(group_id(0, second, 0x1234));
+        let mut indices = Vec::new();
+        for lower in lowers {
+            let index = route_index(&mut self.rng);
+            indices.push(route_id(index));
+            payloads.push(self.neighbour(index, lower));
+        }
+        indices.push(route_id(0x0777_7777));
+        self.run(&payloads);
+        self.drain();
+        let mut payloads = Vec::new();
+        for _ in 0..self.rng.range(3, 9) {
+            let ethertype = ethertype(&mut self.rng);
+            let prefix = prefix(&mut self.rng, ethertype);
+            let id = match self.rng.chance(92) {
+                true => Some(self.rng.pick(&indices)),
+                false => None,
+            };
+            let cookie = cookie(&mut self.rng);
+            let command = self.route(cookie, ethertype, &prefix, id);
+            payloads.push(command.payload());
+        }
+        self.run(&payloads);
+        self.drain();
+        for _ in 0..self.rng.range(4, 10) {
+            if let Some((port, frame)) = self.routed_frame() {
+                self.call(&format!("frame {port} {}", hex(&frame)));
+            }
+        }
+        if self.rng.chance(50) {
+            self.mod_of_a_route(port, if tag == 0 { None } else { Some(tag) }, mac);
+        }
+        if self.rng.chance(40) {
+            // The lower groups, or the neighbours, go: their routes give nothing.
+            let id = self.rng.pick(&indices);
+            let del = top(9, &encode(&[f(field::GROUP_ID, id.to_le_bytes())], 0, 0));
+            self.run(&[del]);
+            self.drain();
+            self.frames();
+        }
+    }
+
+    /// A route to all that leads to the host, then mods of it: what a mod leaves out is gone.
+    fn mod_of_a_route(&mut self, port: u32, tag: Option<u16>, mac: [u8; 6]) {
+        let ethertype = ethertype(&mut self.rng);
+        let (_, width) = ethertype.pair();
+        let vlan = vlan(&mut self.rng);
+        let host = group_id(0, vlan, 0);
+        let tables = self.tables();
+        let one = group(&mut self.rng, &tables, 7, host).payload();
+        let near = self.neighbour(0x0aaa_aaaa, host);
+        let to = address(&mut self.rng, ethertype);
+        let prefix = |first: u8, ones: u32| Prefix {
+            address: [&[first & 0x7f], &to[1..]].concat(),
+            mask: mask(width, ones),
+        };
+        let id = Some(route_id(0x0aaa_aaaa));
+        let whole = 8 * width as u32;
+        self.run(&[one, near]);
+        let mut codes = [3u16].into_iter().chain([4; 4]);
+        for (first, ones, id) in [
+            (to[0], whole, id),
+            (to[0], whole, None),
+            (to[0], whole, id),
+            (to[0] ^ 1, whole, id),
+            (to[0], whole - 1, id),
+        ] {
+            let mut command = self.route(0x7002, ethertype, &prefix(first, ones), id);
+            command.code = codes.next().unwrap_or(4);
+            command.set(field::GOTO_TBL, [60, 0]);
+            self.run(&[command.payload()]);
+            self.drain();
+            let mut frame = [&mac[..], &[2, 0, 0, 0, 0, 9]].concat();
+            if let Some(tag) = tag {
+                frame.extend([0x81, 0]);
+                frame.extend(tag.to_be_bytes());
+            }
+            let least = if width == 4 { 16 } else { 24 };
+            frame.extend(ethertype.bytes());
+            frame.extend(vec![0; least]);
+            frame.extend([&[to[0] & 0x7f], &to[1..]].concat());
+            self.call(&format!("frame {port} {}", hex(&frame)));
+        }
+    }
+
+    /// Routes for one address: prefixes of several lengths, some of them equal, with priorities that would decide otherwise.
+    fn route_ties(&mut self) {
+        let tables = self.tables();
+        let ports = u64::from(tables.ports);
+        let vlan = vlan(&mut self.rng);
+        let port = self.rng.range(1, ports) as u32;
+        let mut payloads = self.stop(port, vlan, vlan, ROUTERS[0]);
+        let host = group_id(0, vlan, 0);
+        payloads.push(group(&mut self.rng, &tables, 7, host).payload());
+        let ethertype = ethertype(&mut self.rng);
+        let (_, width) = ethertype.pair();
+        let mut to = address(&mut self.rng, ethertype);
+        to[0] &= 0x7f;
+        let lengths: Vec<u32> = match width {
+            4 => vec![0, 8, 8, 9, 16, 23, 24, 24, 31, 32, 32],
+            _ => vec![0, 32, 33, 64, 64, 65, 127, 128, 128],
+        };
+        for index in 0..self.rng.range(3, 7) as u32 {
+            payloads.push(self.neighbour(index, host));
+            let prefix = Prefix {
+                address: to.clone(),
+                mask: mask(width, self.rng.pick(&lengths)),
+            };
+            let cookie = cookie(&mut self.rng);
+            let mut command = self.route(cookie, ethertype, &prefix, Some(route_id(index)));
+            let priority = self.rng.pick(&[5u32, 5, 5, 6, 0x8000_0005]);
+            command.set(field::PRIORITY, priority.to_le_bytes());
+            payloads.push(command.payload());
+        }
+        self.rng.shuffle(&mut payloads);
+        self.run(&payloads);
+        self.drain();
+        let (least, at) = if width == 4 { (20, 16) } else { (40, 24) };
+        for flipped in [None, Some(width - 1), Some(1)] {
+            let mut header = vec![0; least];
+            header[at..].copy_from_slice(&to);
+            if let Some(byte) = flipped {
+                header[at + byte] ^= 1;
+            }
+            let mut frame = [&ROUTERS[0][..], &[2, 0, 0, 0, 0, 9], &[0x81, 0]].concat();
+            frame.extend(vlan.to_be_bytes());
+            frame.extend(ethertype.bytes());
+            frame.extend(header);
             self.call(&format!("frame {port} {}", hex(&frame)));
         }
         self.frames();
@@ -1382,15 +1720,15 @@ impl Script {
             script.call(&format!("frame {ingress} {frame}{list}"));
         };
         ask(self, "");
-        ask(self, " 186");
-        ask(self, " 185");
+        ask(self, " 558");
+        ask(self, " 557");
         for _ in 0..4 {
             let port = self.rng.range(1, 62);
             self.call(&format!("link {port} 0"));
         }
         ask(self, "");
         self.open_ports(80);
-        ask(self, " 512");
+        ask(self, " 1024");
         let longest = longest_lists(&mut self.rng, vlan);
         self.run(&longest);
         self.frames();

@@ -11,7 +11,8 @@ pub fn journal(seed: u64) -> Vec<u8> {
     // Seeds 8, 24, 40 and so on have commands with something to be skipped.
     let mut rng = Rng::new(seed ^ 0x6a6f_7572_6e61_6c73).skipping(seed % 16 == 8);
     let ports = some_ports(&mut rng) as u8;
-    let version = rng.pick(&[Version::One, Version::Two]);
+    let version = rng.pick(&Version::ALL);
+    rng = rng.of_version(version);
     let mut tables = Tables::empty(u32::from(ports));
     let mut header = journal::header_of(version as u16, ports);
     let mut lines: Vec<Vec<u8>> = Vec::new();
@@ -81,7 +82,7 @@ pub fn journal(seed: u64) -> Vec<u8> {
         34..=53 => return cut(&mut rng, &header, &lines),
         54..=69 => spoil_header(&mut rng, &mut header),
         // A version that is known, but not that of the lines.
-        70..=75 => header[3] = version.other() as u8,
+        70..=75 => header[3] = rng.pick(&[1, 2, 3]),
         _ => spoil_lines(&mut rng, &mut lines, &tables, version),
     }
     if kind >= 54 && rng.chance(15) {
@@ -112,17 +113,17 @@ pub fn cut(rng: &mut Rng, header: &[u8], lines: &[Vec<u8>]) -> Vec<u8> {
 
 pub fn spoil_header(rng: &mut Rng, header: &mut Vec<u8>) {
     let bit = 1 << rng.range(0, 7);
-    let unknown: [u16; 8] = [0, 3, 3, 4, 0x0102, 0x0200, 0x00ff, 65_535];
+    let unknown: [u16; 8] = [0, 4, 4, 5, 0x0103, 0x0300, 0x00ff, 65_535];
     match rng.range(0, 8) {
         0 => header[rng.index(3)] ^= bit,
         1 | 2 => header[3..5].copy_from_slice(&rng.pick(&unknown).to_le_bytes()),
         // Its own, but for the high byte.
-        3 | 4 => header[4] = rng.pick(&[1, 2, 0xff]),
+        3 | 4 => header[4] = rng.pick(&[1, 2, 3, 0xff]),
         // Its own, big-endian.
         5 => header.swap(3, 4),
         6 => header[5] = rng.pick(&[0, 63, 64, 255]),
         7 => *header = vec![b'R', b'K', b'X', 9, 9, 0],
-        _ => header[3..6].copy_from_slice(&[3, 0, 63]),
+        _ => header[3..6].copy_from_slice(&[4, 0, 63]),
     }
 }
 
@@ -176,7 +177,7 @@ pub fn spoil_lines(rng: &mut Rng, lines: &mut Vec<Vec<u8>>, tables: &Tables, ver
             lines[at].truncate(6);
             lines[at].extend(match version {
                 Version::One => newer(&payload),
-                Version::Two => older(&payload),
+                Version::Two | Version::Three => older(&payload),
             });
         }
         // A length that is off by some bytes shifts all that follows.

@@ -89,7 +89,7 @@ fn a_nest_must_itself_be_well_formed() {
 
 #[test]
 fn a_table_that_is_not_there_comes_before_other_fields() {
-    for table in [1u16, 20, 30, 40, 60, 0x0a00, 0xffff] {
+    for table in [1u16, 40, 60, 0x0a00, 0x1400, 0x1e00, 0xffff] {
         let table = table.to_le_bytes();
         assert_eq!(status(&payload(3, &[(1, &table)])), Status::Enotsup);
         assert_eq!(
@@ -264,10 +264,12 @@ fn group_ids() {
         for vlan in [0u32, 1, 4094, 4095] {
             let id = kind << 28 | vlan << 16 | 1;
             let good = [0, 3, 4].contains(&kind) && (1..=4094).contains(&vlan);
-            let add = if kind == 0 {
-                port_group(id, 0)
-            } else {
-                list_group(7, id, &[vlan << 16 | 9])
+            // Type 2 has an index there, and any will do.
+            let good = good || kind == 2;
+            let add = match kind {
+                0 => port_group(id, 0),
+                2 => route_group(7, id, 0x0005_0001, 5, [0; 6], [0; 6]),
+                _ => list_group(7, id, &[vlan << 16 | 9]),
             };
             assert_eq!(status(&add), if good { Status::Ok } else { Status::Einval });
             let del = payload(9, &[(10, &id.to_le_bytes())]);

@@ -21,7 +21,7 @@ fn edges_of(edges: &mut Edges, payload: &[u8]) {
     let mut tell = |what: String| *edges.entry(what).or_default() += 1;
     walk(payload, Place::Top, &mut tell);
     let status = |version| Tables::empty(62).execute(payload, version);
-    if status(Version::Two) == Status::Einval && status(Version::One) != Status::Einval {
+    if status(Version::DEVICE) == Status::Einval && status(Version::One) != Status::Einval {
         tell("in the old meaning".to_string());
     }
 }
@@ -83,6 +83,10 @@ struct Seen {
     copies: Counts,
     tables: Counts,
     groups: Counts,
+    /// Live routes by EtherType.
+    routes: Counts,
+    /// Routed copies by what they show.
+    routed: Edges,
     most_flows: usize,
     most_groups: usize,
     errors: u64,
@@ -92,18 +96,43 @@ struct Seen {
 impl Seen {
     fn look(&mut self, tables: &Tables) {
         for flow in tables.flows.values() {
-            let table = match flow.matching {
-                Match::Ingress { .. } => 0,
-                Match::Vlan { .. } => 10,
-                Match::Bridge { .. } => 50,
-            };
-            count(&mut self.tables, table);
+            count(&mut self.tables, u64::from(flow.table()));
+            if let Match::Route { ethertype, .. } = flow.matching {
+                count(&mut self.routes, ethertype as u64);
+            }
         }
         for id in tables.groups.keys() {
             count(&mut self.groups, u64::from(id_type(*id)));
         }
         self.most_flows = self.most_flows.max(tables.flows.len());
         self.most_groups = self.most_groups.max(tables.groups.len());
+    }
+}
+
+impl Seen {
+    /// Counts a routed copy: to which EtherType, tagged or not, where to.
+    fn routed(&mut self, words: &[&str], copy: &[&str]) {
+        let frame = bytes(words[2]).unwrap();
+        if copy.len() != 9 || copy[3..].iter().all(|number| *number == "0") {
+            return;
+        }
+        let tagged = frame[12..14] == [0x81, 0];
+        let at = if tagged { 16 } else { 12 };
+        let mut tell = |what: String| *self.routed.entry(what).or_default() += 1;
+        tell(format!(
+            "{} {}",
+            if frame[at] == 8 { "IPv4" } else { "IPv6" },
+            if tagged { "tagged" } else { "untagged" }
+        ));
+        match number(copy[0]) {
+            Ok(0) => tell("to the host".to_string()),
+            port if port == number(words[1]) => tell("to the ingress port".to_string()),
+            _ => tell("to another port".to_string()),
+        }
+        if frame.len() == at + 2 + if frame[at] == 8 { 20 } else { 40 } {
+            tell("only just long enough".to_string());
+        }
+        tell(format!("POP_VLAN {}", copy[2]));
     }
 }
 
@@ -201,7 +230,10 @@ fn run(seed: u64, calls: u64, seen: &mut Seen) {
             }
             // Nothing is outstanding exactly if all that was posted is consumed.
             ("work", 3) => assert_eq!(book.posted.len(), book.consumed.len()),
-            ("frame", 0) => count(&mut seen.copies, number(told[1]).unwrap()),
+            ("frame", 0) => {
+                count(&mut seen.copies, number(told[1]).unwrap());
+                seen.routed(&words, &told[2..]);
+            }
             _ => {}
         }
         if at % 16 == 0 {
@@ -236,6 +268,11 @@ fn console_scripts_reach_every_outcome() {
     println!("live flows by table, every 16th line {:?}", seen.tables);
     println!("live groups by type, every 16th line {:?}", seen.groups);
     println!(
+        "live routes by EtherType, every 16th line {:?}",
+        seen.routes
+    );
+    println!("routed copies {:?}", seen.routed);
+    println!(
         "at most {} flows, {} groups",
         seen.most_flows, seen.most_groups
     );
@@ -244,14 +281,29 @@ fn console_scripts_reach_every_outcome() {
     all(&seen.answers, &[0, 1, 2, 3, 4, 5, 6, 7, 8, 9]);
     all(&seen.statuses, &[0, 2, 6, 12, 17, 22, 90, 95]);
     all(&seen.copies, &[0, 1, 2, 3, 62]);
-    all(&seen.tables, &[0, 10, 50]);
-    all(&seen.groups, &[0, 3, 4]);
+    all(&seen.tables, &[0, 10, 20, 30, 50]);
+    all(&seen.groups, &[0, 2, 3, 4]);
+    all(&seen.routes, &[0x0800, 0x86dd]);
+    for what in [
+        "IPv4 tagged",
+        "IPv4 untagged",
+        "IPv6 tagged",
+        "IPv6 untagged",
+        "to the host",
+        "to the ingress port",
+        "to another port",
+        "only just long enough",
+        "POP_VLAN 0",
+        "POP_VLAN 1",
+    ] {
+        assert!(seen.routed.contains_key(what), "{what} does not occur");
+    }
     assert_eq!((seen.most_flows, seen.most_groups), (256, 128));
     assert!(seen.errors > 0);
     all_edges(&seen.edges);
 }
 
-/// What trails have of the two versions.
+/// What trails have of the three versions.
 #[derive(Default)]
 struct Trails {
     faults: Counts,
@@ -260,8 +312,10 @@ struct Trails {
     good: Counts,
     /// Lines of good trails that are EINVAL, but not in the other version.
     others: u64,
-    /// Trails whose lines disagree, but not in the other version.
+    /// Trails whose lines disagree, but not in another version.
     swapped: u64,
+    /// Good trails of versions 2 and 3 that are none in the other of the two, by version.
+    told_apart: Counts,
 }
 
 impl Trails {
@@ -276,12 +330,23 @@ impl Trails {
         let Some(known) = journal::version(trail) else {
             return;
         };
-        let mut other = trail.to_vec();
-        other[3] ^= 3;
+        let good_as = |other: u8| {
+            let mut trail = trail.to_vec();
+            trail[3] = other;
+            replay(&trail).is_ok()
+        };
         match fault {
             0 => count(&mut self.good, version.into()),
-            14 => self.swapped += u64::from(replay(&other).is_ok()),
+            14 => self.swapped += u64::from([1, 2, 3].into_iter().any(good_as)),
             _ => {}
+        }
+        // Commands that only version 3 has, in a trail that is good as it stands alone.
+        if fault == 0 && known != Version::One {
+            let other = if known == Version::Two { 3 } else { 2 };
+            count(
+                &mut self.told_apart,
+                u64::from(known as u16 * u16::from(!good_as(other))),
+            );
         }
         let mut at = HEADER;
         while let (0, Some(line)) = (fault, line_at(trail, at)) {
@@ -303,13 +368,15 @@ impl Trails {
         );
         all(&self.faults, &[0, 10, 11, 12, 13, 14]);
         all(&self.versions, versions);
-        all(&self.good, &[1, 2]);
-        assert_eq!(self.good.len(), 2);
+        all(&self.good, &[1, 2, 3]);
+        assert_eq!(self.good.len(), 3);
         assert!(self.others > 0 && self.swapped > 0);
+        println!("told apart {:?}", self.told_apart);
+        all(&self.told_apart, &[2, 3]);
         let total: u64 = self.versions.values().sum();
-        assert!([1, 2]
+        assert!([1, 2, 3]
             .iter()
-            .all(|version| self.versions[version] > total / 3));
+            .all(|version| self.versions[version] > total / 6));
     }
 }
 
@@ -320,17 +387,17 @@ fn trails_reach_every_fault() {
         trails.look(&generate::journal(seed));
     }
     trails.reach(&[
-        0, 1, 2, 3, 4, 0x0102, 0x0200, 0x0100, 0x0101, 0x0202, 65_535,
+        0, 1, 2, 3, 4, 5, 0x0103, 0x0300, 0x0200, 0x0100, 0x0101, 0x0202, 65_535,
     ]);
 }
 
 #[test]
-fn evenings_have_both_versions() {
+fn evenings_have_all_versions() {
     let mut trails = Trails::default();
     for seed in 0..1_200 {
         trails.look(&generate::evening(seed).trail);
     }
-    trails.reach(&[1, 2, 3]);
+    trails.reach(&[1, 2, 3, 4]);
 }
 
 #[test]

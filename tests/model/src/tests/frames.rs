@@ -31,13 +31,13 @@ fn device(commands: &[Vec<u8>]) -> Device {
 }
 
 fn sent(device: &Device, port: u64, frame: &[u8]) -> Vec<[u16; 3]> {
-    let mut list = [0xeeee; 190];
+    let mut list = [0xeeee; 560];
     let count = device.frame(port, frame, &mut list).unwrap();
-    assert!(list[3 * count..].iter().all(|place| *place == 0xeeee));
-    list[..3 * count]
-        .chunks(3)
-        .map(|c| [c[0], c[1], c[2]])
-        .collect()
+    assert!(list[9 * count..].iter().all(|place| *place == 0xeeee));
+    let copies = list[..9 * count].chunks(9);
+    // These are bridged: both MACs are 0.
+    assert!(copies.clone().all(|copy| copy[3..] == [0; 6]));
+    copies.map(|c| [c[0], c[1], c[2]]).collect()
 }
 
 /// Port 1 untagged to VLAN 5, and a unicast way to port 2.
@@ -66,7 +66,7 @@ fn the_way_of_a_frame() {
 #[test]
 fn what_is_a_frame() {
     let device = device(&[]);
-    let answer = |bytes: &[u8]| device.frame(1, bytes, &mut [0; 186]).err();
+    let answer = |bytes: &[u8]| device.frame(1, bytes, &mut [0; 558]).err();
     assert_eq!(answer(&[0; 13]), Some(Refusal::Frame));
     assert_eq!(answer(&[0; 14]), None);
     assert_eq!(answer(&[0; 9_216]), None);
@@ -84,21 +84,21 @@ fn the_lower_answer_is_given() {
     assert_eq!(device.frame(0, &[], &mut []), Err(Refusal::Port));
     assert_eq!(device.frame(5, &[], &mut []), Err(Refusal::Port));
     assert_eq!(
-        device.frame(1 << 32 | 4, &frame(MAC, None), &mut [0; 186]),
+        device.frame(1 << 32 | 4, &frame(MAC, None), &mut [0; 558]),
         Err(Refusal::Port)
     );
     assert_eq!(device.frame(4, &[], &mut []), Err(Refusal::Frame));
     assert_eq!(
-        device.frame(4, &frame(MAC, None), &mut [0; 185]),
+        device.frame(4, &frame(MAC, None), &mut [0; 557]),
         Err(Refusal::List)
     );
     // A port that is down does not hide a short list.
     let down = Device::fresh(4, 0).unwrap();
     assert_eq!(
-        down.frame(4, &frame(MAC, None), &mut [0; 185]),
+        down.frame(4, &frame(MAC, None), &mut [0; 557]),
         Err(Refusal::List)
     );
-    assert_eq!(down.frame(4, &frame(MAC, None), &mut [0; 186]), Ok(0));
+    assert_eq!(down.frame(4, &frame(MAC, None), &mut [0; 558]), Ok(0));
 }
 
 #[test]

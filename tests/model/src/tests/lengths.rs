@@ -60,13 +60,14 @@ fn each_version_is_replayed_by_its_own_meaning() {
     for (version, own, other) in [
         (1, old_example(), worked_example()),
         (2, worked_example(), old_example()),
+        (3, worked_example(), old_example()),
     ] {
         assert_eq!(trail(version, 0x8000, &own), good);
         assert_eq!(trail(version, 0x8016, &own), "refused 14 line 1\n");
         assert_eq!(trail(version, 0x8000, &other), "refused 14 line 1\n");
         assert_eq!(trail(version, 0x8016, &other), bad);
     }
-    for version in (0..=0xffff).filter(|version| ![1, 2].contains(version)) {
+    for version in (0..=0xffff).filter(|version| ![1, 2, 3].contains(version)) {
         let trail = [header_of(version, 63), vec![1]].concat();
         assert_eq!(replay(&trail).map_err(|r| r.fault), Err(Fault::Version));
     }
@@ -134,7 +135,7 @@ fn lengths_7_8_and_9_in_cmd_info() {
         }
     }
     // A table that is not there comes after the nest.
-    let other_table = raw(1, 10, &[20, 0, 0, 0, 0, 0, 0, 0]);
+    let other_table = raw(1, 10, &[40, 0, 0, 0, 0, 0, 0, 0]);
     assert_eq!(status(&command(3, &other_table), Two), Status::Enotsup);
     let nest = [&other_table[..], &raw(99, 7, &[])].concat();
     assert_eq!(status(&command(3, &nest), Two), Status::Einval);

@@ -17,7 +17,7 @@ fn the_worked_trail() {
     assert_eq!(trail.len(), 84);
     assert_eq!(
         trail[..12],
-        [0x52, 0x4b, 0x54, 2, 0, 4, 0, 0x80, 0x48, 0, 0, 0]
+        [0x52, 0x4b, 0x54, 3, 0, 4, 0, 0x80, 0x48, 0, 0, 0]
     );
     assert_eq!(trail[12..], worked_example());
     assert_eq!(
@@ -28,13 +28,18 @@ fn the_worked_trail() {
 
 #[test]
 fn a_header_alone() {
-    for header in [header(62), header_of(1, 62), header_of(2, 62)] {
+    for header in [
+        header(62),
+        header_of(1, 62),
+        header_of(2, 62),
+        header_of(3, 62),
+    ] {
         assert_eq!(
             report(&header),
             "ports 62\nlines 0\ncharged 0\nflows 0\ngroups 0\n"
         );
     }
-    assert_eq!(header(62), header_of(2, 62));
+    assert_eq!(header(62), header_of(3, 62));
 }
 
 #[test]
@@ -46,9 +51,9 @@ fn header_faults_in_their_order() {
     assert_eq!(fault(b"XXX\x09\x09"), (Fault::CutShort, 0));
     assert_eq!(fault(b"RKX\x09\x09\x00"), (Fault::Mark, 0));
     assert_eq!(fault(b"rKT\x01\x00\x04"), (Fault::Mark, 0));
-    assert_eq!(fault(b"RKT\x03\x00\x00"), (Fault::Version, 0));
+    assert_eq!(fault(b"RKT\x04\x00\x00"), (Fault::Version, 0));
     assert_eq!(fault(b"RKT\x01\x01\x04"), (Fault::Version, 0));
-    for version in [1, 2] {
+    for version in [1, 2, 3] {
         for ports in [0, 63] {
             assert_eq!(fault(&header_of(version, ports)), (Fault::PortCount, 0));
         }

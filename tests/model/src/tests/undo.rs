@@ -99,7 +99,7 @@ fn a_trail_of_version_1_has_the_list_that_a_device_obeys() {
     }
     assert_eq!(list(&old, 7), Err(Refusal::Count));
     // Read with the other meaning, neither is good.
-    for (mut trail, version) in [(old, 2), (new, 1)] {
+    for (mut trail, version) in [(old.clone(), 2), (old, 3), (new, 1)] {
         trail[3] = version;
         let refused = list(&trail, 0).map_err(|refusal| refusal.to_string());
         assert_eq!(refused, Err("refused 14 line 1".to_string()));
@@ -131,7 +131,7 @@ fn a_script_makes_a_trail_of_version_1_anew() {
         [header(4), lines(&night)].concat()
     );
     assert!(post::script(&trail[..trail.len() - 1]).is_err());
-    assert!(post::script(&header_of(3, 4)).is_err());
+    assert!(post::script(&header_of(4, 4)).is_err());
 }
 
 #[test]
@@ -160,15 +160,8 @@ fn refusals_come_in_their_order_and_keep_the_room() {
 fn longest(stock: u16) -> Vec<Vec<u8>> {
     let members: Vec<u32> = (0..62).map(|port| 0x0001_0000 | port).collect();
     let flows = (0..256).map(|at| {
-        let mac = Some([1, 0, 0, 0, 0, 0]);
-        flow_50(
-            u64::from(stock) << 32 | at,
-            0,
-            1,
-            mac,
-            Some(0x4001_0000),
-            60,
-        )
+        let to = (vec![0x20; 16], vec![0xff; 16]);
+        flow_30(u64::from(stock) << 32 | at, 0, to, Some(0x2000_0000), 60)
     });
     let groups =
         (0..128).map(|at| list_group(7, 0x3001_0000 | u32::from(stock) << 8 | at, &members));
@@ -248,6 +241,7 @@ fn stress_of_a_few_seeds() {
     for what in [
         "trails of version 1",
         "trails of version 2",
+        "trails of version 3",
         "empty lists",
         "flows in another table",
         "by the console",

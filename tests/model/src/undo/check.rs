@@ -8,7 +8,7 @@ use crate::tlv::{split, Place, Tlv, Version};
 use std::collections::BTreeMap;
 
 /// The longest list: each place of both tables is freed and filled again, with the longest entries there are.
-pub const LONGEST_LIST: usize = 256 * (42 + 170) + 128 * (42 + 66 + 62 * 16);
+pub const LONGEST_LIST: usize = 256 * (42 + 202) + 128 * (42 + 66 + 62 * 16);
 
 /// A list that was checked, how many payloads it has, and the tables that it leads to.
 #[derive(Clone, Debug, PartialEq, Eq)]
@@ -19,7 +19,7 @@ pub struct Checked {
 }
 
 /// The list that leads back to the first n lines, carried out after the whole trail, on a device. `Ok(Err(..))` is a refusal, `Err(..)` a
-/// failure. Behind a trail of version 1 the list's lines would be read with another meaning: there they stand behind the same trail as a
+/// failure. Behind a trail of version 1 or 2 the list's lines would be read by another version: there they stand behind the same trail as a
 /// device writes it now, which has the same list.
 pub fn check(trail: &[u8], n: u64) -> Result<Result<Checked, Refusal>, String> {
     let mut room = vec![0; LONGEST_LIST];
@@ -165,16 +165,24 @@ fn has_form(payload: &[u8]) -> bool {
             vec![1, 2, 3, 4, 5, 6, 9, 14, 19]
         }
         ([3 | 4, 0], [10, 0], _) => vec![1, 2, 3, 4, 5, 6, 9, 14],
+        ([3 | 4, 0], [20, 0], _) => vec![1, 2, 3, 4, 5, 6, 9, 14, 23, 24],
+        ([3 | 4, 0], [30, 0], _) if first(field::ETHERTYPE) == [0x08, 0x00] => {
+            vec![1, 2, 3, 4, 5, 9, 23, 36, 37]
+        }
+        ([3 | 4, 0], [30, 0], _) => vec![1, 2, 3, 4, 5, 9, 23, 38, 39],
         ([3 | 4, 0], [50, 0], _) => vec![1, 2, 3, 4, 5, 9, 14],
         ([7 | 8, 0], _, [.., 0x00..=0x0f]) => vec![8, 10, 43],
+        ([7 | 8, 0], _, [.., 0x20..=0x2f]) => vec![10, 11, 14, 24, 26],
         ([7 | 8, 0], ..) => vec![10, 12, 13],
         _ => return false,
     };
-    if first(field::TBL) == [50, 0] {
-        let optional = [field::GROUP_ID, field::DST_MAC];
-        expected.extend(optional.iter().filter(|kind| kinds.contains(kind)));
-        expected.sort();
-    }
+    let optional: &[u32] = match first(field::TBL) {
+        [30, 0] => &[field::GROUP_ID],
+        [50, 0] => &[field::GROUP_ID, field::DST_MAC],
+        _ => &[],
+    };
+    expected.extend(optional.iter().filter(|kind| kinds.contains(kind)));
+    expected.sort();
     kinds == expected
         && zeros_between(payload, Place::Top)
         && zeros_between(info.value, Place::Info)
@@ -275,6 +283,7 @@ fn one(seed: u64, met: &mut Met) -> Result<(), String> {
     *met.entry(match journal::version(trail) {
         Some(Version::One) => "trails of version 1",
         Some(Version::Two) => "trails of version 2",
+        Some(Version::Three) => "trails of version 3",
         None => "trails of no known version",
     })
     .or_default() += 1;

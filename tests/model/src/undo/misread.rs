@@ -69,8 +69,14 @@ labels! {
     UndoVersion1Is15 "a good trail of version 1 is refused with 15"
     UndoVersion2Old "a trail of version 2 is read with lengths that count the value alone"
     UndoVersion2Refused "a trail of version 2 is refused with 12"
-    UndoVersion3 "a trail of version 3 is read as one of version 2"
     UndoVersionLow "the low byte of the version is compared"
+
+    // Request 2026-03: "New trails carry version 3; older ones have neither these tables nor type 2"
+    UndoVersion3Refused "a trail of version 3 is refused with 12"
+    UndoVersion3As2 "a trail of version 3 is read as one of version 2"
+    UndoVersion2As3 "a trail of version 2 is read as one of version 3"
+    UndoVersion4 "a trail of version 4 is read as one of version 3"
+    UndoVersion2Is15 "a good trail of version 2 is refused with 15"
 
     // "The list goes to the start of the room, the rest is kept, and the result gives its length"
     UndoRestZeroed "the rest of the room is zeroed"
@@ -95,6 +101,9 @@ labels! {
     UndoMembersAsSet "a list whose members have only another order does not differ"
     UndoPresenceIgnored "a field that only one side has is no difference"
     UndoTimesIgnored "flows that differ in their times alone get no mod"
+    UndoRoutesLeftOut "flows of tables 20 and 30 are left as they are"
+    UndoType2LeftOut "groups of type 2 are left as they are"
+    UndoBitsOutsideIgnored "routes whose addresses differ outside their mask alone get no mod"
 
     // "The list is fixed: del .., mod .., add ..; in each, flows by cookie, then groups by ID, rising"
     UndoAddsFirst "adds come before dels"
@@ -116,6 +125,9 @@ labels! {
     UndoCookiesAsAdded "flows come in the order in which they were added"
     UndoIdsByVlan "groups come by VLAN, then by type"
     UndoIdsByBytes "group IDs rise by their bytes as they stand"
+    UndoType2Last "groups of type 2 come after those of other types"
+    UndoType2First "groups of type 2 come before those of other types"
+    UndoCookiesByPrefix "routes come by their prefix, then by cookie"
 
     // "all its fields and both times (a del only its key), in rising type"
     UndoTimesLeftOut "the times are left out"
@@ -131,6 +143,15 @@ labels! {
     UndoOutPport2Bytes "OUT_PPORT has 2 bytes"
     UndoPopForLists "POP_VLAN stands for types 3 and 4 too"
     UndoCountForType0 "GROUP_COUNT stands as 0 for type 0"
+    UndoMaskForTable20 "IN_PPORT_MASK stands for table 20 too"
+    UndoEtherTypeForTable50 "ETHERTYPE stands as 0 for table 50"
+    UndoBothPairs "of a route the other address and mask stand as zeros"
+    UndoRouteGroupAlways "a GROUP_ID that a route does not have stands as 0"
+    UndoAddressMasked "an address stands under its mask"
+    UndoMaskAsLength "a mask stands as the number of its ones"
+    UndoOutPportForType2 "OUT_PPORT stands for type 2"
+    UndoPopForType2 "POP_VLAN stands for type 2"
+    UndoMacsSwapped "of type 2 SRC_MAC has the destination and DST_MAC the source"
     UndoMembersRising "members stand in rising order"
     UndoMembersFrom0 "the k-th member has type k - 1"
     UndoMembersBigEndian "members are big-endian"
@@ -208,6 +229,13 @@ const FAMILIES: [Family; 4] = [
             NEW_VLAN_ID,
             DST_MAC,
             POP_VLAN,
+            GROUP_ID_LOWER,
+            ETHERTYPE,
+            SRC_MAC,
+            DST_IP,
+            DST_IP_MASK,
+            DST_IPV6,
+            DST_IPV6_MASK,
         ],
         "entries that differ in FIELD alone get no mod",
     ),
@@ -231,6 +259,13 @@ const FAMILIES: [Family; 4] = [
             NEW_VLAN_ID,
             DST_MAC,
             POP_VLAN,
+            GROUP_ID_LOWER,
+            ETHERTYPE,
+            SRC_MAC,
+            DST_IP,
+            DST_IP_MASK,
+            DST_IPV6,
+            DST_IPV6_MASK,
         ],
         "FIELD is left out",
     ),
@@ -250,6 +285,11 @@ const FAMILIES: [Family; 4] = [
             VLAN_ID,
             DST_MAC,
             POP_VLAN,
+            SRC_MAC,
+            DST_IP,
+            DST_IP_MASK,
+            DST_IPV6,
+            DST_IPV6_MASK,
         ],
         "FIELD is left out where it is 0",
     ),
@@ -271,6 +311,13 @@ const FAMILIES: [Family; 4] = [
             VLAN_ID,
             NEW_VLAN_ID,
             DST_MAC,
+            GROUP_ID_LOWER,
+            ETHERTYPE,
+            SRC_MAC,
+            DST_IP,
+            DST_IP_MASK,
+            DST_IPV6,
+            DST_IPV6_MASK,
         ],
         "FIELD has its bytes in the other order",
     ),

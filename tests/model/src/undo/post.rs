@@ -45,8 +45,8 @@ pub fn behind(script: &[u8], payloads: &[&[u8]]) -> Vec<u8> {
     out
 }
 
-/// A script whose device makes this trail, slots aside. One of version 1 is made as a device writes it now: with version 2 in its header, and
-/// in every payload, well formed or not, lengths that count 8 more. Why there is no script, where the trail is cut or of no known version.
+/// A script whose device makes this trail, slots aside. One of version 1 or 2 is made as a device writes it now (`newer`). Why there is no
+/// script, where the trail is cut or of no known version.
 pub fn script(trail: &[u8]) -> Result<String, String> {
     let trail = newer(trail)?;
     let slots: Vec<(Status, &[u8])> = lines(&trail)?
@@ -76,16 +76,23 @@ fn lines(trail: &[u8]) -> Result<Vec<&[u8]>, String> {
     Ok(lines)
 }
 
-/// A trail as a device writes it now: the same lines, which do the same.
+/// A trail as a device writes it now: with version 3 in its header, and the same lines, which complete alike. From version 1 lengths count 8
+/// more, in payloads that are ill formed too. What versions 1 and 2 refuse for its table or group type, and version 3 might not, has
+/// another table or type that version 3 refuses with the same status.
 pub fn newer(trail: &[u8]) -> Result<Vec<u8>, String> {
     let header = trail.get(..HEADER).ok_or("the trail is cut short")?;
-    if journal::version(trail).ok_or("the trail's version is not known")? == Version::DEVICE {
+    let version = journal::version(trail).ok_or("the trail's version is not known")?;
+    if version == Version::DEVICE {
         return Ok(trail.to_vec());
     }
     let mut out = journal::header_of(Version::DEVICE as u16, header[HEADER - 1]);
     for line in lines(trail)? {
+        let payload = match version {
+            Version::One => recount::newer(&line[LINE..]),
+            _ => line[LINE..].to_vec(),
+        };
         out.extend(&line[..LINE]);
-        out.extend(recount::newer(&line[LINE..]));
+        out.extend(recount::refused_still(&payload));
     }
     Ok(out)
 }

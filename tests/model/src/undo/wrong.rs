@@ -96,7 +96,10 @@ pub fn version(trail: &[u8]) -> Cow<'_, [u8]> {
         1 if misread(L::UndoVersion1Refused) => 0,
         2 if misread(L::UndoVersion2Old) => 1,
         2 if misread(L::UndoVersion2Refused) => 0,
-        3 if misread(L::UndoVersion3) => 2,
+        2 if misread(L::UndoVersion2As3) => 3,
+        3 if misread(L::UndoVersion3Refused) => 0,
+        3 if misread(L::UndoVersion3As2) => 2,
+        4 if misread(L::UndoVersion4) => 3,
         version if misread(L::UndoVersionLow) => version & 0xff,
         _ => return trail.into(),
     };
@@ -108,6 +111,7 @@ pub fn version(trail: &[u8]) -> Cow<'_, [u8]> {
 /// Whether a good trail is refused for its version.
 pub fn too_old(trail: &[u8]) -> bool {
     misread(L::UndoVersion1Is15) && journal::version(trail) == Some(Version::One)
+        || misread(L::UndoVersion2Is15) && journal::version(trail) == Some(Version::Two)
 }
 
 /// The part of a trail that is looked at.
@@ -244,7 +248,11 @@ fn value(fields: &Fields, kind: u32) -> Option<&Vec<u8>> {
 /// Whether a step is not taken at all.
 fn is_left_out(step: &Step, now: &Entries) -> bool {
     let is_flow = matches!(step.key, Key::Flow(_));
+    let is_type_2 = matches!(step.key, Key::Group(id) if id_type(id) == 2);
+    let table = value(&step.fields, field::TBL).map(|table| table[0]);
     match step.action {
+        _ if misread(L::UndoRoutesLeftOut) && matches!(table, Some(20 | 30)) => true,
+        _ if misread(L::UndoType2LeftOut) && is_type_2 => true,
         _ if misread(L::UndoFlowsLeftOut) => is_flow,
         _ if misread(L::UndoGroupsLeftOut) => !is_flow,
         Action::Del => misread(L::UndoDelsLeftOut),
@@ -271,6 +279,10 @@ fn seen_to_differ(fields: &Fields, other: &Fields) -> bool {
     };
     match chosen() {
         Some(L::Ignored(kind)) => differ != [kind],
+        Some(L::UndoBitsOutsideIgnored) => {
+            masked(fields) != masked(other)
+                || !matches!(differ[..], [field::DST_IP | field::DST_IPV6])
+        }
         Some(L::UndoTimesIgnored) => differ
             .iter()
             .any(|kind| ![field::HARDTIME, field::IDLETIME].contains(kind)),
@@ -283,6 +295,20 @@ fn seen_to_differ(fields: &Fields, other: &Fields) -> bool {
         }
         _ => true,
     }
+}
+
+/// The same fields, an address under its mask.
+fn masked(fields: &Fields) -> Fields {
+    let mut out = fields.clone();
+    for (kind, bytes) in &mut out {
+        if let (field::DST_IP | field::DST_IPV6, Some(mask)) = (*kind, value(fields, *kind + 1)) {
+            bytes
+                .iter_mut()
+                .zip(mask)
+                .for_each(|(byte, mask)| *byte &= mask);
+        }
+    }
+    out
 }
 
 fn member_ids(fields: &Fields) -> Vec<u32> {
@@ -371,6 +397,13 @@ fn rank(step: &Step, added: &[u64]) -> i128 {
                 _ if misread(L::UndoCookiesByBytes) => i128::from(cookie.swap_bytes()),
                 _ if misread(L::UndoCookiesByTable) => number(field::TBL) << 64 | rising,
                 _ if misread(L::UndoCookiesByPriority) => number(field::PRIORITY) << 64 | rising,
+                _ if misread(L::UndoCookiesByPrefix) => {
+                    let masks = [field::DST_IP_MASK, field::DST_IPV6_MASK];
+                    let mask = masks.iter().find_map(|kind| value(&step.fields, *kind));
+                    let ones = |mask: &Vec<u8>| mask.iter().map(|byte| byte.count_ones()).sum();
+                    let length: u32 = mask.map_or(0, ones);
+                    i128::from(200 - length) << 64 | rising
+                }
                 _ if misread(L::UndoCookiesAsAdded) => {
                     let place = added.iter().position(|other| *other == cookie);
                     place.unwrap_or_default() as i128
@@ -383,6 +416,8 @@ fn rank(step: &Step, added: &[u64]) -> i128 {
             _ if misread(L::UndoDelsFall) && step.action == Action::Del => -i128::from(id),
             _ if misread(L::UndoIdsByVlan) => i128::from(id.rotate_left(4)),
             _ if misread(L::UndoIdsByBytes) => i128::from(id.swap_bytes()),
+            _ if misread(L::UndoType2Last) && id_type(id) == 2 => i128::from(id) << 32,
+            _ if misread(L::UndoType2First) && id_type(id) == 2 => i128::from(id) - (1 << 40),
             _ => i128::from(id),
         },
     }
@@ -402,6 +437,9 @@ pub fn fields(step: &Step, fields: &mut Fields) {
         }
     } else {
         more_fields(step.key, fields);
+        if misread(L::UndoAddressMasked) {
+            *fields = masked(fields);
+        }
     }
     let is_put = step.action != Action::Del;
     match chosen() {
@@ -417,13 +455,39 @@ pub fn fields(step: &Step, fields: &mut Fields) {
     for (kind, value) in fields.iter_mut() {
         other_value(*kind, value);
     }
+    if misread(L::UndoMacsSwapped) && value(fields, field::SRC_MAC).is_some() {
+        for (kind, _) in fields.iter_mut() {
+            match *kind {
+                field::SRC_MAC => *kind = field::DST_MAC,
+                field::DST_MAC => *kind = field::SRC_MAC,
+                _ => {}
+            }
+        }
+        fields.sort_by_key(|(kind, _)| *kind);
+    }
     order(step.key, fields);
 }
 
 /// Fields that an entry does not have.
 fn more_fields(key: Key, fields: &mut Fields) {
     let table = value(fields, field::TBL).map(|table| table[0]);
-    let list = matches!(key, Key::Group(id) if id_type(id) != 0);
+    let list = matches!(key, Key::Group(id) if id_type(id) > 2);
+    let type_0 = matches!(key, Key::Group(id) if id_type(id) == 0);
+    let type_2 = matches!(key, Key::Group(id) if id_type(id) == 2);
+    let other_pair = match value(fields, field::DST_IP) {
+        Some(_) => [
+            (field::DST_IPV6, vec![0; 16]),
+            (field::DST_IPV6_MASK, vec![0; 16]),
+        ],
+        None => [
+            (field::DST_IP, vec![0; 4]),
+            (field::DST_IP_MASK, vec![0; 4]),
+        ],
+    };
+    if table == Some(30) && misread(L::UndoBothPairs) {
+        fields.extend(other_pair);
+        fields.sort_by_key(|(kind, _)| *kind);
+    }
     let low = match key {
         Key::Group(id) => u32::from(id as u16),
         Key::Flow(_) => 0,
@@ -431,13 +495,20 @@ fn more_fields(key: Key, fields: &mut Fields) {
     let more: Option<(u32, Vec<u8>)> = match table {
         Some(10) if misread(L::UndoNewVlanAlways) => Some((field::NEW_VLAN_ID, vec![0; 2])),
         Some(10) if misread(L::UndoMaskForTable10) => Some((field::IN_PPORT_MASK, vec![0xff; 4])),
+        Some(20) if misread(L::UndoMaskForTable20) => Some((field::IN_PPORT_MASK, vec![0xff; 4])),
+        Some(30) if misread(L::UndoRouteGroupAlways) => Some((field::GROUP_ID, vec![0; 4])),
+        Some(50) if misread(L::UndoEtherTypeForTable50) => Some((field::ETHERTYPE, vec![0; 2])),
         Some(50) if misread(L::UndoMacAlways) => Some((field::DST_MAC, vec![0; 6])),
         Some(50) if misread(L::UndoGroupAlways) => Some((field::GROUP_ID, vec![0; 4])),
         None if list && misread(L::UndoOutPportForLists) => {
             Some((field::OUT_PPORT, low.to_le_bytes().to_vec()))
         }
         None if list && misread(L::UndoPopForLists) => Some((field::POP_VLAN, vec![0])),
-        None if !list && misread(L::UndoCountForType0) => Some((field::GROUP_COUNT, vec![0; 2])),
+        None if type_2 && misread(L::UndoOutPportForType2) => {
+            Some((field::OUT_PPORT, low.to_le_bytes().to_vec()))
+        }
+        None if type_2 && misread(L::UndoPopForType2) => Some((field::POP_VLAN, vec![0])),
+        None if type_0 && misread(L::UndoCountForType0) => Some((field::GROUP_COUNT, vec![0; 2])),
         _ => None,
     };
     if let Some((kind, zero)) = more {
@@ -452,6 +523,10 @@ fn other_value(kind: u32, value: &mut Vec<u8>) {
     match chosen() {
         Some(L::Reversed(reversed)) if reversed == kind => value.reverse(),
         Some(L::UndoOutPport2Bytes) if kind == field::OUT_PPORT => value.truncate(2),
+        Some(L::UndoMaskAsLength) if [field::DST_IP_MASK, field::DST_IPV6_MASK].contains(&kind) => {
+            let ones: u32 = value.iter().map(|byte| byte.count_ones()).sum();
+            *value = vec![ones as u8];
+        }
         Some(L::UndoMembersRising) if kind == field::GROUP_IDS => {
             let mut ids: Vec<u32> = member_ids(&vec![(kind, value.clone())]);
             ids.sort();
@@ -491,6 +566,13 @@ fn order(key: Key, fields: &mut Fields) {
         field::GROUP_COUNT,
         field::GROUP_IDS,
         field::POP_VLAN,
+        field::GROUP_ID_LOWER,
+        field::ETHERTYPE,
+        field::SRC_MAC,
+        field::DST_IP,
+        field::DST_IP_MASK,
+        field::DST_IPV6,
+        field::DST_IPV6_MASK,
     ];
     match chosen() {
         Some(L::UndoTypesFall) => fields.reverse(),
@@ -556,7 +638,7 @@ pub fn payloads(payloads: &mut [Vec<u8>], trail: &[u8]) {
     };
     if chosen().is_some_and(|label| OLD.contains(&label)) {
         for payload in payloads {
-            recount(payload, Place::Top, Version::Two, &old);
+            recount(payload, Place::Top, Version::DEVICE, &old);
         }
     }
 }
