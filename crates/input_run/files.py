@@ -7,7 +7,7 @@ import sys
 sys.dont_write_bytecode = True
 here = pathlib.Path(__file__).parent
 sys.path.insert(0, str(here.parent / "replay_run"))
-from cases import EINVAL, EEXIST, OK, flood, flow, flow_del, group, group_del, header, journal, record, said_of
+from cases import EINVAL, EEXIST, ENOTSUP, OK, flood, flow, flow_del, group, group_del, header, journal, record, route, said_of, stop
 
 BUFFER = 65536  # one read of replay
 
@@ -41,9 +41,16 @@ def version_1():
                    (EEXIST, group(7)), (OK, group_del()), (OK, flow_del(3)))
 
 
+def version_2():
+    """The same of version 2: a route is ENOTSUP in its first record and in its last."""
+    return journal(2, (ENOTSUP, stop(3, 99)), *[(OK, flow(3, k)) for k in range(9)], (OK, group(7)), (EINVAL, noise(4096)), (EEXIST, group(7)),
+                   (OK, flow_del(3)), (ENOTSUP, route(3, 99, 64, True)))
+
+
 FILES = {
     "long.trail": long(),
     "version-1.trail": version_1(),
+    "version-2.trail": version_2(),
     "over-long.trail": over_long(),
     "over-long-cut.trail": over_long()[:-len(record(OK, group_del())) - 1],
 }
