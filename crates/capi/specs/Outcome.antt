@@ -5,7 +5,7 @@ use mathlib.Core.Path.{_≡_}
 use mathlib.Core.List.{List, [], _∷_}
 use mir.Syntax.{w16, w32, w64, tyInt, tyArray}
 use prog.Memory.{size}
-use Rattle.rules.specs.Limits.{maxPorts, maxFlows, maxGroups}
+use lib.ListN.{length, getD}
 use Rattle.rules.specs.Answers.{number}
 use Rattle.rules.specs.Choose.{choose}
 use Rattle.rules.specs.Members.{elem}
@@ -58,10 +58,15 @@ pub record FreshOutcome (answer : ℕ) (w w′ : List ℕ) (a a′ : Arrays) (po
   pub made : answer ≡ 0 → (deviceIn w′ ≡ freshDevice ports id) × (a′ ≡ freshArrays)
   pub kept : (answer ≡ 0 → ⊥) → (w′ ≡ w) × (a′ ≡ a)
 
--- the bytes of the four arrays that a host holds, as the logic's machine lays out their types
+-- how many numbers a row of an array has
+abbrev pub rowLength : List (List ℕ) → ℕ
+rowLength rows = length (getD rows 0 [])
+
+-- The bytes of the four arrays that a host holds, as the logic's machine lays out their types: those of the places have the shape that a
+-- fresh device's have
 unfoldable pub partsSize : ℕ
 partsSize =
     size (tyArray (tyInt w64) 16)
-    + size (tyArray (tyArray (tyInt w32) 22) maxFlows)
-    + size (tyArray (tyArray (tyInt w32) 8) maxGroups)
-    + size (tyArray (tyArray (tyInt w16) maxPorts) maxGroups)
+    + size (tyArray (tyArray (tyInt w32) (rowLength (freshArrays .flows))) (length (freshArrays .flows)))
+    + size (tyArray (tyArray (tyInt w32) (rowLength (freshArrays .heads))) (length (freshArrays .heads)))
+    + size (tyArray (tyArray (tyInt w16) (rowLength (freshArrays .members))) (length (freshArrays .members)))
