@@ -17,10 +17,11 @@ use Rattle.rules.specs.Descriptor.Fetched.{Faulty, Payload}
 use Rattle.rules.specs.Region.{walk, tlvs, endOf, wellFormed, scan, lookup}
 use Rattle.rules.specs.Fields.{isAt}
 use Rattle.rules.specs.Decode.{refused, carried, need, flowIn, flowKeyIn, groupIn, groupKeyIn, commandIn, commandType, commandInfo, decode}
-use Rattle.rules.specs.Tables.{Tables, addStatus, heldStatus, commandStatus, decodedStatus, executed, carryOut, execute, cookieOf, idOf}
+use Rattle.rules.specs.Tables.{Tables, addStatus, heldStatus, commandStatus, commandStatusIn, decodedStatus, decodedStatusIn, executed, carryOut, carryOutIn, execute, executeIn, cookieOf, idOf}
 use Rattle.rules.specs.Keyed.{holds}
 use Rattle.rules.specs.Journal.{completion, Progress, ready, isUnread, recordAgrees, tablesAfter, counted, recordRead}
-use Rattle.rules.specs.Switch.{carry}
+use Rattle.rules.specs.Engine.{Order}
+use Rattle.rules.specs.Switch.{carry, carryBy}
 use Rattle.rules.specs.declared.Terms.{Terms}
 use Rattle.rules.specs.declared.Status.{Status}
 use Rattle.rules.specs.declared.Status.the-variants.{Enxio, Einval, Emsgsize, Enotsup}
@@ -93,19 +94,19 @@ decode-read terms s =
     (need-read _ Enotsup _ enotsup-read (need-read _ Einval _ einval-read (command-read terms _ _)))
 
 module _ {A : Type 0} (key : A → ℕ) (k : ℕ) (l : List A) where
-  add-read : (limit : ℕ) → Read (addStatus key limit k l)
+  add-read : (limit : ℕ) → Read (addStatus (holds key) limit k l)
   unfolding addStatus isUnread completion code
   add-read limit =
       by-test (holds key k l)
       (λ p. by-test (leb limit (length l)) (λ q. simp (p, q)) (λ q. simp (p, q)))
       (λ p. by-test (leb limit (length l)) (λ q. simp (p, q)) (λ q. simp (p, q)))
 
-  held-read : Read (heldStatus key k l)
+  held-read : Read (heldStatus (holds key) k l)
   unfolding heldStatus isUnread completion code
   held-read = by-test (holds key k l) (λ p. rw p) (λ p. rw p)
 
 status-read : (t : Tables) (w : Decoded) → ReadBy w → Read (decodedStatus t w)
-unfolding decodedStatus commandStatus
+unfolding decodedStatusIn commandStatusIn
 status-read t (Carry (FlowAdd f)) h = add-read cookieOf (f .cookie) (t .flows) maxFlows
 status-read t (Carry (FlowMod f)) h = held-read cookieOf (f .cookie) (t .flows)
 status-read t (Carry (FlowDel k)) h = held-read cookieOf k (t .flows)
@@ -115,57 +116,57 @@ status-read t (Carry (GroupDel k)) h = held-read idOf k (t .groups)
 status-read t (Refused e) h = h
 
 pub execute-read : (terms : Terms) (payload : List ℕ) (t : Tables) → isUnread (completion (execute terms payload t .status)) ≡ false
-unfolding execute carryOut executed
+unfolding executeIn carryOutIn executed
 execute-read terms payload t = status-read t (decode terms payload .what) (decode-read terms payload)
 
 -- ---- An empty payload is EINVAL, as is a descriptor's fault that records none
 
 pub execute-empty : (terms : Terms) (t : Tables) → (execute terms [] t .status ≡ Einval) × (execute terms [] t .tables ≡ t)
-unfolding execute carryOut executed decodedStatus decode need refused wellFormed endOf tlvs walk isAt commandType commandInfo lookup scan code
+unfolding executeIn carryOutIn executed decodedStatusIn decode need refused wellFormed endOf tlvs walk isAt commandType commandInfo lookup scan code
 execute-empty terms t = (refl, refl)
 
 -- ---- The agreement
 
 -- replay makes of the record of a slot what the slot did
-abbrev Agrees : Progress → Fetched → Type 0
-Agrees p f =
-    recordRead p (completion (carry (p .terms) (p .tables) f .status)) (carry (p .terms) (p .tables) f .payload)
-    ≡ ready (counted p (completion (carry (p .terms) (p .tables) f .status)) (carry (p .terms) (p .tables) f .tables))
+abbrev Agrees : Progress → Order → Fetched → Type 0
+Agrees p o f =
+    let c = carry (p .terms) (p .tables) o f in
+    recordRead p (completion (c .status)) (c .payload) ≡ ready (counted p (completion (c .status)) (c .tables))
 
-payload-agrees : (p : Progress) (bs : List ℕ) → length bs ≤ maxPayload → Agrees p (Payload bs)
-unfolding carry recordRead recordAgrees tablesAfter
-payload-agrees p bs h = rw (execute-read (p .terms) bs (p .tables), le-leb _ _ h, eq-eqb (completion (execute (p .terms) bs (p .tables) .status)) _ refl)
+payload-agrees : (p : Progress) (o : Order) (bs : List ℕ) → length bs ≤ maxPayload → Agrees p o (Payload bs)
+unfolding carryBy recordRead recordAgrees tablesAfter
+payload-agrees p o bs h = rw (execute-read (p .terms) bs (p .tables), le-leb _ _ h, eq-eqb (completion (execute (p .terms) bs (p .tables) .status)) _ refl)
 
-enxio-agrees : (p : Progress) → Agrees p (Faulty Enxio)
-unfolding carry recordRead recordAgrees tablesAfter isUnread completion code
-enxio-agrees p = refl
+enxio-agrees : (p : Progress) (o : Order) → Agrees p o (Faulty Enxio)
+unfolding carryBy recordRead recordAgrees tablesAfter isUnread completion code
+enxio-agrees p o = refl
 
-emsgsize-agrees : (p : Progress) → Agrees p (Faulty Emsgsize)
-unfolding carry recordRead recordAgrees tablesAfter isUnread completion code
-emsgsize-agrees p = refl
+emsgsize-agrees : (p : Progress) (o : Order) → Agrees p o (Faulty Emsgsize)
+unfolding carryBy recordRead recordAgrees tablesAfter isUnread completion code
+emsgsize-agrees p o = refl
 
-einval-agrees : (p : Progress) → Agrees p (Faulty Einval)
-unfolding carry recordRead recordAgrees tablesAfter
-einval-agrees p =
+einval-agrees : (p : Progress) (o : Order) → Agrees p o (Faulty Einval)
+unfolding carryBy recordRead recordAgrees tablesAfter
+einval-agrees p o =
     let x = execute-empty (p .terms) (p .tables) in
     rw (einval-read, x .0, x .1, eq-eqb (completion Einval) _ refl)
 
 -- whatever memory and descriptor hold
-pub fetch-agrees : (p : Progress) (memory : List ℕ) (d : Descriptor) → Agrees p (fetch memory d)
+pub fetch-agrees : (p : Progress) (o : Order) (memory : List ℕ) (d : Descriptor) → Agrees p o (fetch memory d)
 unfolding fetch part
-fetch-agrees p memory d =
+fetch-agrees p o memory d =
     by-test (not (eqb (d .«buf_addr» % 8) 0 && inside (d .«buf_addr») (d .«buf_size») memory))
-    (λ a. rw a (enxio-agrees p))
+    (λ a. rw a (enxio-agrees p o))
     (λ a. by-test (ltb (d .«buf_size») (d .«tlv_size»))
-    (λ b. rw (a, b) (einval-agrees p))
+    (λ b. rw (a, b) (einval-agrees p o))
     (λ b. by-test (ltb maxPayload (d .«tlv_size»))
-    (λ c. rw (a, b, c) (emsgsize-agrees p))
-    (λ c. rw (a, b, c) (payload-agrees p _ (rw length-take (omega (arith, ltb-false maxPayload (d .«tlv_size») c)))))))
+    (λ c. rw (a, b, c) (emsgsize-agrees p o))
+    (λ c. rw (a, b, c) (payload-agrees p o _ (rw length-take (omega (arith, ltb-false maxPayload (d .«tlv_size») c)))))))
 
 -- what is recorded is short
-pub fetch-short : (terms : Terms) (t : Tables) (memory : List ℕ) (d : Descriptor) → length (carry terms t (fetch memory d) .payload) ≤ maxPayload
-unfolding fetch carry part
-fetch-short terms t memory d =
+pub fetch-short : (terms : Terms) (t : Tables) (o : Order) (memory : List ℕ) (d : Descriptor) → length (carry terms t o (fetch memory d) .payload) ≤ maxPayload
+unfolding fetch carryBy part
+fetch-short terms t o memory d =
     by-test (not (eqb (d .«buf_addr» % 8) 0 && inside (d .«buf_addr») (d .«buf_size») memory))
     (λ a. rw a (omega arith))
     (λ a. by-test (ltb (d .«buf_size») (d .«tlv_size»))

@@ -118,7 +118,7 @@ level a b u v =
 
 -- of rising keys no two are alike
 module _ {A : Type 0} (key : A → ℕ) where
-  above-mem : (k : ℕ) (a : A) (l : List A) → Above key k l → List·Memᴰ a l → k < key a
+  pub above-mem : (k : ℕ) (a : A) (l : List A) → Above key k l → List·Memᴰ a l → k < key a
   above-mem k a [] h m = absurd (List·Memᴰ·not-nil m)
   above-mem k a (e ∷ es) h m = ⊎-elim (λ w. rw w (h .0)) (λ w. above-mem k a es (h .1) w) (List·Memᴰ·cases-cons m)
 

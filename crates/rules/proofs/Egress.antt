@@ -1,5 +1,5 @@
 -- Where a frame may go: each output's port is the host or is up, and is not the port that the frame came in on unless it is routed. For any
--- registers, tables, port and frame.
+-- registers, deciding flows, groups, port and frame.
 -- Assumes nothing.
 use Prim.Native.Nat.{ℕ}
 use mathlib.Core.Bool.{true, false, not, _||_}
@@ -9,9 +9,9 @@ use mathlib.Core.Path.{_≡_}
 use lib.Dec.{eqb}
 use borrow.Author.Tests.{eqb-false, not-true}
 use Rattle.rules.specs.Registers.{isUp}
-use Rattle.rules.specs.Tables.{Tables}
-use Rattle.rules.specs.Frame.{Output, way, exitOutputs, isKept, keep, outputs}
+use Rattle.rules.specs.Frame.{Decider, Output, way, exitOutputs, isKept, keep, outputs}
 use Rattle.rules.specs.declared.Registers.{Registers}
+use Rattle.rules.specs.declared.GroupEntry.{GroupEntry}
 use Rattle.rules.proofs.Cases.{by-test, by-eq, and-left, and-right}
 
 module _ {A : Type 0} (P : A → Type 0) where
@@ -42,9 +42,9 @@ module _ (d : Registers) (ingress : ℕ) where
   all-kept (o ∷ os) = by-test (isKept d ingress o) (λ p. simp p ((kept-is-up o p, kept-is-elsewhere o p), all-kept os)) (λ p. simp p (all-kept os))
 
   -- THE LAW
-  pub outputs-may : (t : Tables) (f : List ℕ) → All MayLeave (outputs d t ingress f)
+  pub outputs-may : (decides : Decider) (groups : List GroupEntry) (f : List ℕ) → All MayLeave (outputs d decides groups ingress f)
   unfolding outputs
-  outputs-may t f =
+  outputs-may decides groups f =
       by-test (isUp d ingress)
-      (λ p. simp p (all-kept (exitOutputs (t .groups) (way (t .flows) ingress f))))
+      (λ p. simp p (all-kept (exitOutputs groups (way decides ingress f))))
       (λ p. simp p tt)

@@ -3,14 +3,14 @@
 use Prim.Native.Nat.{ℕ, suc, _<_, _≤_}
 use mathlib.Core.Bool.{Bool, true, false}
 use mathlib.Core.Option.{Option, none, some}
-use mathlib.Core.Path.{_≡_, refl, ap}
+use mathlib.Core.Path.{_≡_, refl, ap, sym}
 use mathlib.Core.List.{List, [], _∷_}
 use native.Mathlib.Omega.{arith}
 use lib.Dec.{eqb}
-use lib.ListN.{length}
+use lib.ListN.{length, set}
 use borrow.Author.Tests.{lt-ltb, le-ltb}
 use Rattle.rules.specs.Choose.{choose}
-use Rattle.rules.specs.Keyed.{holds, find, insert, replace, remove, Above, Rising}
+use Rattle.rules.specs.Keyed.{insertAt, without, position, holds, find, insert, replace, remove, Above, Rising}
 use Rattle.rules.proofs.Cases.{by-test, by-lt, by-eq, by-order, gt-eqb, not-both}
 
 module _ {A : Type 0} (key : A → ℕ) where
@@ -160,3 +160,39 @@ module _ {A : Type 0} (key : A → ℕ) where
       by-test (holds key k l)
       (λ r. omega (arith, simp r at (length-remove k l)))
       (λ r. omega (arith, simp r at (length-remove k l)))
+
+  -- ---- The rules by position
+
+  pub position-le : (k : ℕ) (l : List A) → position key k l ≤ length l
+  unfolding position
+  position-le k [] = omega arith
+  position-le k (g ∷ gs) = by-lt (key g) k (λ h p. simp p (omega (arith, position-le k gs))) (λ h p. simp p (omega arith))
+
+  -- a key that is held stands at one of the entries
+  pub holds-lt : (k : ℕ) (l : List A) → holds key k l ≡ true → position key k l < length l
+  unfolding position holds
+  holds-lt k [] t = not-both (sym t)
+  holds-lt k (g ∷ gs) t = by-lt (key g) k (λ h p. simp p (omega (arith, holds-lt k gs (simp p at t)))) (λ h p. simp p (omega arith))
+
+  pub insert-at : (e : A) (l : List A) → insert key e l ≡ insertAt (position key (key e) l) e l
+  unfolding insert position
+  insert-at e [] = refl
+  insert-at e (g ∷ gs) = by-lt (key g) (key e) (λ h p. simp p (ap {B = List A} (λ r. g ∷ r) (insert-at e gs))) (λ h p. simp p)
+
+  pub replace-at : (e : A) (l : List A) → holds key (key e) l ≡ true → replace key e l ≡ set l (position key (key e) l) e
+  unfolding replace position holds
+  replace-at e [] t = refl
+  replace-at e (g ∷ gs) t =
+      by-order (key g) (key e)
+      (λ h p q. simp (p, q) (ap {B = List A} (λ r. g ∷ r) (replace-at e gs (simp p at t))))
+      (λ h p q. simp (p, q))
+      (λ h p q. not-both (sym (simp (p, q) at t)))
+
+  pub remove-at : (k : ℕ) (l : List A) → holds key k l ≡ true → remove key k l ≡ without (position key k l) l
+  unfolding remove position holds
+  remove-at k [] t = refl
+  remove-at k (g ∷ gs) t =
+      by-order (key g) k
+      (λ h p q. simp (p, q) (ap {B = List A} (λ r. g ∷ r) (remove-at k gs (simp p at t))))
+      (λ h p q. simp (p, q))
+      (λ h p q. not-both (sym (simp (p, q) at t)))

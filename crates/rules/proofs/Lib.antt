@@ -21,3 +21,4 @@ pub mod Switch
 pub mod PointTable
 mod Points
 mod Routing
+mod Order

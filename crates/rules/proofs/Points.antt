@@ -21,9 +21,10 @@ use Rattle.rules.specs.GroupId.{groupType, groupVlan, groupLow, vlanAllo
 use Rattle.rules.specs.Members.{elem, memberRight, collect, membersIn, membersRight, pad}
 use Rattle.rules.specs.Decode.{refused, carried, need, matchOf, flowOf, groupFits, newVlanFits, matchAllowed, flowUser, isTable, flowIn, flowKeyIn, groupOf, membersOf, groupAllowed, groupUser, groupIn, groupKeyIn, isCommand, commandIn, commandType, commandInfo, decode}
 use Rattle.rules.specs.Keyed.{position, holds, find, insert, replace, remove}
-use Rattle.rules.specs.Tables.{Tables, storedFlow, flowEntry, groupEntry, emptyTables, addStatus, heldStatus, commandStatus, withFlows, withGroups, commandEffect, decodedStatus, decodedEffect, executed, carryOut, execute}
+use Rattle.rules.specs.Tables.{Tables, storedFlow, flowEntry, groupEntry, emptyTables, addStatus, heldStatus, commandStatus, commandStatusIn, withFlows, withGroups, commandEffect, commandEffectIn, decodedStatus, decodedStatusIn, decodedEffect, decodedEffectIn, executed, carryOut, carryOutIn, execute, executeIn}
 use Rattle.rules.specs.Journal.{completion, header, recordOf, begin, ready, stopped, headerRefusal, termsIn, opened, headerRead, isUnread, recordAgrees, tablesAfter, counted, recordRead, whole, feed, feeds, endsIn, finished, finish, replay, digits, decimal, item, line, report}
-use Rattle.rules.specs.Switch.{Switch, Borrowed, freshSwitch, unchanged, unlessRefused, readEffect, writeEffect, carry, carriedSlot, slotRecord, bufferRefusal, processRefusal, processWrites, processEffect, headed, refusal, effect, step}
+use Rattle.rules.specs.Engine.{noOrder}
+use Rattle.rules.specs.Switch.{Switch, Borrowed, freshSwitch, unchanged, unlessRefused, readEffect, writeEffect, carry, carryBy, carriedSlot, carriedSlotBy, slotRecord, slotRecordBy, bufferRefusal, processRefusal, processRefusalBy, processWrites, processWritesBy, processEffect, processEffectBy, headed, refusal, refusalBy, effect, effectBy, step, stepBy}
 use Rattle.rules.specs.declared.Terms.{Terms}
 use Rattle.rules.specs.declared.Ring.{Ring}
 use Rattle.rules.specs.declared.Request.the-variants.{Read, Write, Process, Header}
@@ -33,7 +34,7 @@ use Rattle.rules.proofs.PointTable.{Point, point, same, all}
 
 -- a switch of so many ports whose ring is r
 switchWith : ℕ → Ring → Switch
-switchWith ports r = record { registers = withCommandRing (freshRegisters ports 0) r; tables = emptyTables }
+switchWith ports r = record { registers = withCommandRing (freshRegisters ports 0) r; tables = emptyTables; order = noOrder }
 
 -- "ring 8, HEAD 5, TAIL 2" with so many credits
 ring8 : ℕ → Ring
@@ -183,5 +184,5 @@ points =
     ∷ []
 
 points-hold : all points ≡ true
-unfolding points switchWith ring8 unlent bool headWrite sizeWrite testWrite creditsWrite withLengths payload oldPayload old formed run posted memory at-work worked journalOf journal written five one again code le leAt bytesOf swap16 part inside splice bit zeroRing distance outstanding advance baseRefusal baseEffect powerUpTo sizeRefusal sizeEffect headRefusal headEffect creditsRefusal creditsEffect creditsRaises ctrlEffect ringWide ringValue ringStore ringLatch baseLatched ringLatched nextSlot completeEffect completeRaises registerAt isWide upperOf narrowAt coveredBy wideAt access accessRefusal valueOf readValue portBits withRing raised inRing withLinks withTest withTest64 withEnable freshRegisters resetRegisters sets store latchOf latchEffect taken joined writeTo unlessWriteRefused write readRefusal read portCountAllowed portAllowed descriptorAt descriptor slotRefusal completionAt fetch known headerCounted headerBytes routes valueSize filled tlvAt tlvEnd isTlv stepAt walk tlvs endOf wellFormed fitsWidth meet scan lookup rows memberWidth ruleIn ruleOf field isAt numberIn nestIn given value right hasUser fieldRight everyBelow fieldsRight groupType groupVlan groupLow vlanAllowed hasMembers isRouting groupIdAllowed memberId elem memberRight collect membersIn membersRight pad refused carried need matchOf flowOf groupFits newVlanFits matchAllowed flowUser isTable flowIn flowKeyIn groupOf membersOf groupAllowed groupUser groupIn groupKeyIn isCommand commandIn commandType commandInfo decode position holds find insert replace remove storedFlow flowEntry groupEntry emptyTables addStatus heldStatus commandStatus withFlows withGroups commandEffect decodedStatus decodedEffect executed carryOut execute completion header recordOf begin ready stopped headerRefusal termsIn opened headerRead isUnread recordAgrees tablesAfter counted recordRead whole feed feeds endsIn finished finish replay digits decimal item line report freshSwitch unchanged unlessRefused readEffect writeEffect carry carriedSlot slotRecord bufferRefusal processRefusal processWrites memoryAfter processEffect headed refusal effect step
+unfolding points switchWith ring8 unlent bool headWrite sizeWrite testWrite creditsWrite withLengths payload oldPayload old formed run posted memory at-work worked journalOf journal written five one again code le leAt bytesOf swap16 part inside splice bit zeroRing distance outstanding advance baseRefusal baseEffect powerUpTo sizeRefusal sizeEffect headRefusal headEffect creditsRefusal creditsEffect creditsRaises ctrlEffect ringWide ringValue ringStore ringLatch baseLatched ringLatched nextSlot completeEffect completeRaises registerAt isWide upperOf narrowAt coveredBy wideAt access accessRefusal valueOf readValue portBits withRing raised inRing withLinks withTest withTest64 withEnable freshRegisters resetRegisters sets store latchOf latchEffect taken joined writeTo unlessWriteRefused write readRefusal read portCountAllowed portAllowed descriptorAt descriptor slotRefusal completionAt fetch known headerCounted headerBytes routes valueSize filled tlvAt tlvEnd isTlv stepAt walk tlvs endOf wellFormed fitsWidth meet scan lookup rows memberWidth ruleIn ruleOf field isAt numberIn nestIn given value right hasUser fieldRight everyBelow fieldsRight groupType groupVlan groupLow vlanAllowed hasMembers isRouting groupIdAllowed memberId elem memberRight collect membersIn membersRight pad refused carried need matchOf flowOf groupFits newVlanFits matchAllowed flowUser isTable flowIn flowKeyIn groupOf membersOf groupAllowed groupUser groupIn groupKeyIn isCommand commandIn commandType commandInfo decode position holds find insert replace remove storedFlow flowEntry groupEntry emptyTables addStatus heldStatus commandStatusIn withFlows withGroups commandEffectIn decodedStatusIn decodedEffectIn executed carryOutIn executeIn completion header recordOf begin ready stopped headerRefusal termsIn opened headerRead isUnread recordAgrees tablesAfter counted recordRead whole feed feeds endsIn finished finish replay digits decimal item line report freshSwitch unchanged unlessRefused readEffect writeEffect carryBy carriedSlotBy slotRecordBy bufferRefusal processRefusalBy processWritesBy memoryAfter processEffectBy headed refusalBy effectBy stepBy
 points-hold = refl

@@ -18,7 +18,8 @@ use Rattle.rules.specs.GroupId.{groupType, groupVlan, groupLow, vlanAllo
 use Rattle.rules.specs.Members.{elem, memberRight, collect, membersIn, membersRight, pad}
 use Rattle.rules.specs.Decode.{refused, carried, need, ethertypeIn, addressField, maskField, otherAbsent, addressOf, routeOf, matchOf, flowOf, groupFits, newVlanFits, matchAllowed, flowUser, isTable, pairAlone, flowIn, flowKeyIn, groupOf, membersOf, lowerFits, groupAllowed, groupUser, groupIn, groupKeyIn, isCommand, commandIn, commandType, commandInfo, decode}
 use Rattle.rules.specs.Keyed.{position, holds, find, insert, replace, remove}
-use Rattle.rules.specs.Tables.{Tables, storedFlow, flowEntry, groupEntry, emptyTables, addStatus, heldStatus, commandStatus, withFlows, withGroups, commandEffect, decodedStatus, decodedEffect, executed, carryOut, execute}
+use Rattle.rules.specs.Tables.{Tables, storedFlow, flowEntry, groupEntry, emptyTables, addStatus, heldStatus, commandStatus, commandStatusIn, withFlows, withGroups, commandEffect, commandEffectIn, decodedStatus, decodedStatusIn, decodedEffect, decodedEffectIn, executed, carryOut, carryOutIn, execute, executeIn}
+use Rattle.rules.specs.Engine.{decidesBest}
 use Rattle.rules.specs.Frame.{isTagged, frameVlan, frameMac, frameType, afterType, isRoutable, frameAddress, headersOf, best, beats, matches0, matches10, matches20, matches30, matches50, exitOf, fromTable50, fromTable30, afterTable20, fromTable20, afterTable10, fromTable10, passesTable0, wayOf, way, outputOf, outputIf, memberOutputs, groupOutputs, foundOutputs, exitOutputs, isKept, keep, outputs, macNumbers, copyOf, numbersOf}
 use Rattle.rules.specs.Encode.{Field, fieldOf, tlvOf, regionOf, payloadOf}
 use Rattle.rules.specs.declared.Terms.{Terms}
@@ -93,7 +94,7 @@ frame n address = 2 ∷ 0 ∷ 0 ∷ 0 ∷ 0 ∷ n ∷ 2 ∷ 0 ∷ 0 ∷ 0 ∷ 0 
 
 -- what goes out of a frame that comes in on port 1
 sent : List ℕ → List ℕ
-sent f = numbersOf (outputs registers tables 1 f)
+sent f = numbersOf (outputs registers (decidesBest (tables .flows)) (tables .groups) 1 f)
 
 -- ---- The table
 
@@ -120,5 +121,5 @@ points =
     ∷ []
 
 points-hold : all points ≡ true
-unfolding points added route neighbour registers flow single routing tables frame sent code le leAt bytesOf swap16 swapped part bit zeroRing isUp portAllowed headerCounted headerBytes routes valueSize lengthField filled tlvAt tlvEnd isTlv stepAt walk tlvs endOf wellFormed fitsWidth meet scan lookup prefixMask agree lengthFrom prefixLength isIpv6 isRoutedType addressBytes addressBits alignedHigh alignedLow addressIn isUnicast rows memberWidth ruleIn ruleOf field isAt isAbsent numberIn nestIn given value right hasUser fieldRight everyBelow fieldsRight groupType groupVlan groupLow vlanAllowed hasMembers isRouting groupIdAllowed memberId elem memberRight collect membersIn membersRight pad refused carried need ethertypeIn addressField maskField otherAbsent addressOf routeOf matchOf flowOf groupFits newVlanFits matchAllowed flowUser isTable pairAlone flowIn flowKeyIn groupOf membersOf lowerFits groupAllowed groupUser groupIn groupKeyIn isCommand commandIn commandType commandInfo decode position holds find insert replace remove storedFlow flowEntry groupEntry emptyTables addStatus heldStatus commandStatus withFlows withGroups commandEffect decodedStatus decodedEffect executed carryOut execute isTagged frameVlan frameMac frameType afterType isRoutable frameAddress headersOf best beats matches0 matches10 matches20 matches30 matches50 exitOf fromTable50 fromTable30 afterTable20 fromTable20 afterTable10 fromTable10 passesTable0 wayOf way outputOf outputIf memberOutputs groupOutputs foundOutputs exitOutputs isKept keep outputs macNumbers copyOf numbersOf tlvOf regionOf payloadOf
+unfolding points added route neighbour registers flow single routing tables frame sent code le leAt bytesOf swap16 swapped part bit zeroRing isUp portAllowed headerCounted headerBytes routes valueSize lengthField filled tlvAt tlvEnd isTlv stepAt walk tlvs endOf wellFormed fitsWidth meet scan lookup prefixMask agree lengthFrom prefixLength isIpv6 isRoutedType addressBytes addressBits alignedHigh alignedLow addressIn isUnicast rows memberWidth ruleIn ruleOf field isAt isAbsent numberIn nestIn given value right hasUser fieldRight everyBelow fieldsRight groupType groupVlan groupLow vlanAllowed hasMembers isRouting groupIdAllowed memberId elem memberRight collect membersIn membersRight pad refused carried need ethertypeIn addressField maskField otherAbsent addressOf routeOf matchOf flowOf groupFits newVlanFits matchAllowed flowUser isTable pairAlone flowIn flowKeyIn groupOf membersOf lowerFits groupAllowed groupUser groupIn groupKeyIn isCommand commandIn commandType commandInfo decode position holds find insert replace remove storedFlow flowEntry groupEntry emptyTables addStatus heldStatus commandStatusIn withFlows withGroups commandEffectIn decodedStatusIn decodedEffectIn executed carryOutIn executeIn isTagged frameVlan frameMac frameType afterType isRoutable frameAddress headersOf best decidesBest beats matches0 matches10 matches20 matches30 matches50 exitOf fromTable50 fromTable30 afterTable20 fromTable20 afterTable10 fromTable10 passesTable0 wayOf way outputOf outputIf memberOutputs groupOutputs foundOutputs exitOutputs isKept keep outputs macNumbers copyOf numbersOf tlvOf regionOf payloadOf
 points-hold = refl

@@ -12,7 +12,7 @@ use Rattle.rules.specs.Limits.{maxFlows, maxGroups}
 use Rattle.rules.specs.Answers.{code}
 use Rattle.rules.specs.Keyed.{holds, Rising}
 use Rattle.rules.specs.Decode.{decode}
-use Rattle.rules.specs.Tables.{Tables, storedFlow, flowEntry, groupEntry, cookieOf, idOf, emptyTables, addStatus, commandStatus, withFlows, withGroups, commandEffect, decodedStatus, decodedEffect, executed, carryOut, execute}
+use Rattle.rules.specs.Tables.{Tables, storedFlow, flowEntry, groupEntry, cookieOf, idOf, emptyTables, addStatus, commandStatus, commandStatusIn, withFlows, withGroups, commandEffect, commandEffectIn, decodedStatus, decodedStatusIn, decodedEffect, decodedEffectIn, executed, carryOut, carryOutIn, execute, executeIn}
 use Rattle.rules.specs.declared.Terms.{Terms}
 use Rattle.rules.specs.declared.Status.{Status}
 use Rattle.rules.specs.declared.Status.the-variants.{Ok, Enoent, Enxio, Enomem, Eexist, Einval, Emsgsize, Enotsup}
@@ -41,28 +41,28 @@ ok-code Enotsup h = absurd (omega arith)
 -- A STATUS OTHER THAN OK LEAVES THE TABLES AS THEY WERE
 pub not-ok-unchanged : (terms : Terms) (payload : List ℕ) (t : Tables)
     → (execute terms payload t .status ≡ Ok → ⊥) → execute terms payload t .tables ≡ t
-unfolding execute carryOut executed
+unfolding executeIn carryOutIn executed
 not-ok-unchanged terms payload t h = simp (ne-eqb _ 0 (λ e. h (ok-code _ e)))
 
 -- ---- The order of statuses, for any table
 
 module _ {A : Type 0} (key : A → ℕ) (k : ℕ) (l : List A) where
   -- EEXIST comes before ENOMEM: a key that is held is EEXIST, however many entries are live
-  pub add-held : (limit : ℕ) → holds key k l ≡ true → addStatus key limit k l ≡ Eexist
+  pub add-held : (limit : ℕ) → holds key k l ≡ true → addStatus (holds key) limit k l ≡ Eexist
   unfolding addStatus
   add-held limit h = simp h
 
   -- ENOMEM exactly from the limit on
-  pub add-full : (limit : ℕ) → holds key k l ≡ false → limit ≤ length l → addStatus key limit k l ≡ Enomem
+  pub add-full : (limit : ℕ) → holds key k l ≡ false → limit ≤ length l → addStatus (holds key) limit k l ≡ Enomem
   unfolding addStatus
   add-full limit h f = simp (h, le-leb _ _ f)
 
-  pub add-done : (limit : ℕ) → holds key k l ≡ false → length l < limit → addStatus key limit k l ≡ Ok
+  pub add-done : (limit : ℕ) → holds key k l ≡ false → length l < limit → addStatus (holds key) limit k l ≡ Ok
   unfolding addStatus
   add-done limit h f = simp (h, lt-leb _ _ f)
 
   -- what OK says of the key and of the number of entries
-  pub add-ok : (limit : ℕ) → code (addStatus key limit k l) ≡ 0 → (holds key k l ≡ false) × (length l < limit)
+  pub add-ok : (limit : ℕ) → code (addStatus (holds key) limit k l) ≡ 0 → (holds key k l ≡ false) × (length l < limit)
   unfolding addStatus code
   add-ok limit h =
       by-test (holds key k l)
@@ -95,7 +95,7 @@ unfolding flowEntry
 cookie-kept f = cookie-stored f (f .matching)
 
 command-good : (t : Tables) (c : Command) (m : List ℕ) → Good t → code (commandStatus t c) ≡ 0 → Good (commandEffect t c m)
-unfolding commandStatus commandEffect withFlows withGroups groupEntry
+unfolding commandStatusIn commandEffectIn withFlows withGroups groupEntry
 command-good t (FlowAdd f) m g h =
     let a = add-ok cookieOf (f .cookie) (t .flows) maxFlows h in
     record {
@@ -142,13 +142,13 @@ command-good t (GroupDel k) m g h =
     }
 
 decoded-good : (t : Tables) (w : Decoded) (m : List ℕ) → Good t → code (decodedStatus t w) ≡ 0 → Good (decodedEffect t w m)
-unfolding decodedStatus decodedEffect
+unfolding decodedStatusIn decodedEffectIn
 decoded-good t (Carry c) m g h = command-good t c m g h
 decoded-good t (Refused e) m g h = g
 
 -- every payload keeps them
 pub execute-good : (terms : Terms) (payload : List ℕ) (t : Tables) → Good t → Good (execute terms payload t .tables)
-unfolding execute carryOut executed
+unfolding executeIn carryOutIn executed
 execute-good terms payload t g =
     let d = decode terms payload in
     by-test (eqb (code (decodedStatus t (d .what))) 0)

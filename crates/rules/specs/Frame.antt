@@ -13,7 +13,7 @@ use Rattle.rules.specs.Address.{agree, isIpv6, addressBytes, addressBits
 use Rattle.rules.specs.Keyed.{find}
 use Rattle.rules.specs.GroupId.{groupType, groupVlan, groupLow, hasMembers, isRouting, memberId}
 use Rattle.rules.specs.Registers.{portAllowed, isUp}
-use Rattle.rules.specs.Tables.{Tables, idOf}
+use Rattle.rules.specs.Tables.{idOf}
 use Rattle.rules.specs.declared.Registers.{Registers}
 use Rattle.rules.specs.declared.FlowEntry.{FlowEntry}
 use Rattle.rules.specs.declared.GroupEntry.{GroupEntry}
@@ -66,6 +66,10 @@ headersOf f =
     record { mac = frameMac f; vlan = frameVlan f; ethertype = frameType f; routable = isRoutable f; address = frameAddress f }
 
 -- ---- The deciding flow
+
+-- What decides in a table, by its number and what it compares: a flow of it, or none
+abbrev pub Decider : Type 0
+Decider = ℕ → (FlowEntry → Bool) → Option FlowEntry
 
 -- the best of the entries that match, in any order of storage
 module _ {A : Type 0} (matches : A → Bool) (beats : A → A → Bool) where
@@ -122,40 +126,40 @@ exitOf vlan none = none
 exitOf vlan (some e) =
     choose (eqb (e .«goto_tbl») 0) none (choose (e .«has_group») (some (record { vlan = vlan; group = e .«group_id» })) none)
 
-unfoldable pub fromTable50 : List FlowEntry → ℕ → ℕ → Option Exit
-fromTable50 flows mac vlan = exitOf vlan (best (matches50 vlan mac) beats flows)
+unfoldable pub fromTable50 : Decider → ℕ → ℕ → Option Exit
+fromTable50 decides mac vlan = exitOf vlan (decides 50 (matches50 vlan mac))
 
 -- a frame in which the address is not whole "drops"
-unfoldable pub fromTable30 : List FlowEntry → Headers → ℕ → Option Exit
-fromTable30 flows h vlan = choose (h .routable) (exitOf vlan (best (matches30 h) beats flows)) none
+unfoldable pub fromTable30 : Decider → Headers → ℕ → Option Exit
+fromTable30 decides h vlan = choose (h .routable) (exitOf vlan (decides 30 (matches30 h))) none
 
 -- table 20: "a miss goes to 50"; a flow of it has GOTO_TBL 30
-unfoldable pub afterTable20 : List FlowEntry → Headers → ℕ → Option FlowEntry → Option Exit
-afterTable20 flows h vlan none = fromTable50 flows (h .mac) vlan
-afterTable20 flows h vlan (some e) = fromTable30 flows h vlan
+unfoldable pub afterTable20 : Decider → Headers → ℕ → Option FlowEntry → Option Exit
+afterTable20 decides h vlan none = fromTable50 decides (h .mac) vlan
+afterTable20 decides h vlan (some e) = fromTable30 decides h vlan
 
-unfoldable pub fromTable20 : List FlowEntry → ℕ → Headers → ℕ → Option Exit
-fromTable20 flows port h vlan = afterTable20 flows h vlan (best (matches20 port h vlan) beats flows)
+unfoldable pub fromTable20 : Decider → ℕ → Headers → ℕ → Option Exit
+fromTable20 decides port h vlan = afterTable20 decides h vlan (decides 20 (matches20 port h vlan))
 
 -- After table 10: dropped in the same two cases as in 50; else a frame whose VLAN is 0 "takes NEW_VLAN_ID", and table 20 is next
-unfoldable pub afterTable10 : List FlowEntry → ℕ → Headers → Option FlowEntry → Option Exit
-afterTable10 flows port h none = none
-afterTable10 flows port h (some e) =
-    choose (eqb (e .«goto_tbl») 0) none (fromTable20 flows port h (choose (eqb (h .vlan) 0) (e .«new_vlan_id») (h .vlan)))
+unfoldable pub afterTable10 : Decider → ℕ → Headers → Option FlowEntry → Option Exit
+afterTable10 decides port h none = none
+afterTable10 decides port h (some e) =
+    choose (eqb (e .«goto_tbl») 0) none (fromTable20 decides port h (choose (eqb (h .vlan) 0) (e .«new_vlan_id») (h .vlan)))
 
-unfoldable pub fromTable10 : List FlowEntry → ℕ → Headers → Option Exit
-fromTable10 flows port h = afterTable10 flows port h (best (matches10 port (h .vlan)) beats flows)
+unfoldable pub fromTable10 : Decider → ℕ → Headers → Option Exit
+fromTable10 decides port h = afterTable10 decides port h (decides 10 (matches10 port (h .vlan)))
 
 -- table 0 lets a frame on that no flow of it matches: "a miss goes to 10"
 unfoldable pub passesTable0 : Option FlowEntry → Bool
 passesTable0 none = true
 passesTable0 (some e) = not (eqb (e .«goto_tbl») 0)
 
-unfoldable pub wayOf : List FlowEntry → ℕ → Headers → Option Exit
-wayOf flows port h = choose (passesTable0 (best (matches0 port) beats flows)) (fromTable10 flows port h) none
+unfoldable pub wayOf : Decider → ℕ → Headers → Option Exit
+wayOf decides port h = choose (passesTable0 (decides 0 (matches0 port))) (fromTable10 decides port h) none
 
-unfoldable pub way : List FlowEntry → ℕ → List ℕ → Option Exit
-way flows port f = wayOf flows port (headersOf f)
+unfoldable pub way : Decider → ℕ → List ℕ → Option Exit
+way decides port f = wayOf decides port (headersOf f)
 
 -- ---- Outputs
 
@@ -222,8 +226,8 @@ keep d ingress [] = []
 keep d ingress (o ∷ os) = choose (isKept d ingress o) (o ∷ keep d ingress os) (keep d ingress os)
 
 -- the outputs of a frame: none where its ingress port is "down or not enabled"
-unfoldable pub outputs : Registers → Tables → ℕ → List ℕ → List Output
-outputs d t port f = choose (isUp d port) (keep d port (exitOutputs (t .groups) (way (t .flows) port f))) []
+unfoldable pub outputs : Registers → Decider → List GroupEntry → ℕ → List ℕ → List Output
+outputs d decides groups port f = choose (isUp d port) (keep d port (exitOutputs groups (way decides port f))) []
 
 -- a MAC in three numbers (N), its first two bytes in the first
 unfoldable pub macNumbers : ℕ → List ℕ

@@ -1,10 +1,23 @@
--- Lists of entries in rising order of a key: look up, insert, replace, remove. For any entry and any key.
-use Prim.Native.Nat.{ℕ, suc, _<_}
+-- Lists of entries: at a position; and in rising order of a key: look up, insert, replace, remove. For any entry and any key.
+use Prim.Native.Nat.{ℕ, zero, suc, _<_}
 use mathlib.Core.Bool.{Bool, false}
 use mathlib.Core.Option.{Option, none, some}
 use mathlib.Core.List.{List, [], _∷_}
 use lib.Dec.{ltb, eqb}
 use Rattle.rules.specs.Choose.{choose}
+
+module _ {A : Type 0} where
+  -- an entry put in at a position, the rest moved up
+  abbrev pub insertAt : ℕ → A → List A → List A
+  insertAt zero a l = a ∷ l
+  insertAt (suc i) a [] = a ∷ []
+  insertAt (suc i) a (x ∷ l) = x ∷ insertAt i a l
+
+  -- the list without its entry at a position
+  abbrev pub without : ℕ → List A → List A
+  without i [] = []
+  without zero (x ∷ l) = l
+  without (suc i) (x ∷ l) = x ∷ without i l
 
 module _ {A : Type 0} (key : A → ℕ) where
   -- the position of a key: how many entries at the front have a lower one

@@ -20,6 +20,7 @@ pub mod Rows
 pub mod Places
 pub mod Tables
 pub mod Frame
+pub mod Engine
 pub mod Journal
 pub mod Encode
 pub mod Undo

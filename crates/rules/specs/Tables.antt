@@ -1,6 +1,6 @@
 -- What a payload does to the tables: the statuses after decoding, in their order, and the tables after it.
 use Prim.Native.Nat.{ℕ}
-use mathlib.Core.Bool.{true, false}
+use mathlib.Core.Bool.{Bool, true, false}
 use mathlib.Core.List.{List, []}
 use lib.ListN.{length, replicate}
 use lib.Dec.{leb, eqb}
@@ -97,44 +97,31 @@ freshArrays = arrays (replicate maxFlows (replicate 22 0)) (replicate maxGroups 
 
 -- ---- Commands
 
--- of an add EEXIST, then ENOMEM "when 256 flows or 128 groups" are live; of a mod or del ENOENT. For any table
-module _ {A : Type 0} (key : A → ℕ) where
+-- of an add EEXIST, then ENOMEM "when 256 flows or 128 groups" are live; of a mod or del ENOENT. For any table, by what says whether a key
+-- is there
+module _ {A : Type 0} (there : ℕ → List A → Bool) where
   unfoldable pub addStatus : ℕ → ℕ → List A → Status
-  addStatus limit k l = choose (holds key k l) Eexist (choose (leb limit (length l)) Enomem Ok)
+  addStatus limit k l = choose (there k l) Eexist (choose (leb limit (length l)) Enomem Ok)
 
   unfoldable pub heldStatus : ℕ → List A → Status
-  heldStatus k l = choose (holds key k l) Ok Enoent
+  heldStatus k l = choose (there k l) Ok Enoent
 
-unfoldable pub commandStatus : Tables → Command → Status
-commandStatus t (FlowAdd f) = addStatus cookieOf maxFlows (f .cookie) (t .flows)
-commandStatus t (FlowMod f) = heldStatus cookieOf (f .cookie) (t .flows)
-commandStatus t (FlowDel k) = heldStatus cookieOf k (t .flows)
-commandStatus t (GroupAdd g) = addStatus idOf maxGroups (g .id) (t .groups)
-commandStatus t (GroupMod g) = heldStatus idOf (g .id) (t .groups)
-commandStatus t (GroupDel k) = heldStatus idOf k (t .groups)
+-- How flows are kept, as commands need it: whether a cookie is there, and the list after an add, a mod and a del of one
+pub record Store : Type 0 where
+  pub there : ℕ → List FlowEntry → Bool
+  pub added : FlowEntry → List FlowEntry → List FlowEntry
+  pub changed : FlowEntry → List FlowEntry → List FlowEntry
+  pub deleted : ℕ → List FlowEntry → List FlowEntry
+
+-- the device's: in rising order of cookie
+abbrev pub byCookie : Store
+byCookie = record { there = holds cookieOf; added = insert cookieOf; changed = replace cookieOf; deleted = remove cookieOf }
 
 unfoldable pub withFlows : Tables → List FlowEntry → Tables
 withFlows t l = record { flows = l; groups = t .groups }
 
 unfoldable pub withGroups : Tables → List GroupEntry → Tables
 withGroups t l = record { flows = t .flows; groups = l }
-
--- what a command does when its status is OK. A mod replaces all but the key
-unfoldable pub commandEffect : Tables → Command → List ℕ → Tables
-commandEffect t (FlowAdd f) m = withFlows t (insert cookieOf (flowEntry f) (t .flows))
-commandEffect t (FlowMod f) m = withFlows t (replace cookieOf (flowEntry f) (t .flows))
-commandEffect t (FlowDel k) m = withFlows t (remove cookieOf k (t .flows))
-commandEffect t (GroupAdd g) m = withGroups t (insert idOf (groupEntry g m) (t .groups))
-commandEffect t (GroupMod g) m = withGroups t (replace idOf (groupEntry g m) (t .groups))
-commandEffect t (GroupDel k) m = withGroups t (remove idOf k (t .groups))
-
-unfoldable pub decodedStatus : Tables → Decoded → Status
-decodedStatus t (Carry c) = commandStatus t c
-decodedStatus t (Refused e) = e
-
-unfoldable pub decodedEffect : Tables → Decoded → List ℕ → Tables
-decodedEffect t (Carry c) m = commandEffect t c m
-decodedEffect t (Refused e) m = t
 
 -- A payload carried out: its status, and the tables after it
 pub record Executed : Type 0 where
@@ -145,9 +132,55 @@ pub record Executed : Type 0 where
 unfoldable pub executed : Tables → Status → Tables → Executed
 executed t e effect = record { status = e; tables = choose (eqb (code e) 0) effect t }
 
-unfoldable pub carryOut : Tables → Decoding → Executed
-carryOut t d = executed t (decodedStatus t (d .what)) (decodedEffect t (d .what) (d .members))
+-- Whatever keeps the flows; groups are kept in rising order of ID
+module _ (store : Store) where
+  unfoldable pub commandStatusIn : Tables → Command → Status
+  commandStatusIn t (FlowAdd f) = addStatus (store .there) maxFlows (f .cookie) (t .flows)
+  commandStatusIn t (FlowMod f) = heldStatus (store .there) (f .cookie) (t .flows)
+  commandStatusIn t (FlowDel k) = heldStatus (store .there) k (t .flows)
+  commandStatusIn t (GroupAdd g) = addStatus (holds idOf) maxGroups (g .id) (t .groups)
+  commandStatusIn t (GroupMod g) = heldStatus (holds idOf) (g .id) (t .groups)
+  commandStatusIn t (GroupDel k) = heldStatus (holds idOf) k (t .groups)
 
--- a payload, under the terms of a device or a journal
-unfoldable pub execute : Terms → List ℕ → Tables → Executed
-execute terms payload t = carryOut t (decode terms payload)
+  -- what a command does when its status is OK. A mod replaces all but the key
+  unfoldable pub commandEffectIn : Tables → Command → List ℕ → Tables
+  commandEffectIn t (FlowAdd f) m = withFlows t (store .added (flowEntry f) (t .flows))
+  commandEffectIn t (FlowMod f) m = withFlows t (store .changed (flowEntry f) (t .flows))
+  commandEffectIn t (FlowDel k) m = withFlows t (store .deleted k (t .flows))
+  commandEffectIn t (GroupAdd g) m = withGroups t (insert idOf (groupEntry g m) (t .groups))
+  commandEffectIn t (GroupMod g) m = withGroups t (replace idOf (groupEntry g m) (t .groups))
+  commandEffectIn t (GroupDel k) m = withGroups t (remove idOf k (t .groups))
+
+  unfoldable pub decodedStatusIn : Tables → Decoded → Status
+  decodedStatusIn t (Carry c) = commandStatusIn t c
+  decodedStatusIn t (Refused e) = e
+
+  unfoldable pub decodedEffectIn : Tables → Decoded → List ℕ → Tables
+  decodedEffectIn t (Carry c) m = commandEffectIn t c m
+  decodedEffectIn t (Refused e) m = t
+
+  unfoldable pub carryOutIn : Tables → Decoding → Executed
+  carryOutIn t d = executed t (decodedStatusIn t (d .what)) (decodedEffectIn t (d .what) (d .members))
+
+  -- a payload, under the terms of a device or a journal
+  unfoldable pub executeIn : Terms → List ℕ → Tables → Executed
+  executeIn terms payload t = carryOutIn t (decode terms payload)
+
+-- the same of the device's tables, and of those that a replay makes
+abbrev pub commandStatus : Tables → Command → Status
+commandStatus t c = commandStatusIn byCookie t c
+
+abbrev pub commandEffect : Tables → Command → List ℕ → Tables
+commandEffect t c m = commandEffectIn byCookie t c m
+
+abbrev pub decodedStatus : Tables → Decoded → Status
+decodedStatus t w = decodedStatusIn byCookie t w
+
+abbrev pub decodedEffect : Tables → Decoded → List ℕ → Tables
+decodedEffect t w m = decodedEffectIn byCookie t w m
+
+abbrev pub carryOut : Tables → Decoding → Executed
+carryOut t d = carryOutIn byCookie t d
+
+abbrev pub execute : Terms → List ℕ → Tables → Executed
+execute terms payload t = executeIn byCookie terms payload t

@@ -315,10 +315,23 @@ pub struct Counts {
     pub groups: usize,
 }
 
-// The small part of a device. The places of its two tables are arrays that whoever holds the device lends to a call (specs/Rows.antt).
+// The places of the live flows in the order in which they decide, a byte each (specs/Engine.antt). Those past their count mean nothing.
+pub type FlowOrder = [u8; MAX_FLOWS];
+
+// Where the flows of tables 10, 20, 30 and 50 begin in that order. Those of table 0 begin at 0.
+pub struct Firsts {
+    pub vlan: usize,
+    pub termination: usize,
+    pub routing: usize,
+    pub bridging: usize,
+}
+
+// The small part of a device. The places of its two tables, and the order of its flows, are arrays that whoever holds the device lends to a
+// call (specs/Rows.antt, specs/Switch.antt).
 pub struct Device {
     pub registers: Registers,
     pub counts: Counts,
+    pub firsts: Firsts,
 }
 
 // ---- Calls
