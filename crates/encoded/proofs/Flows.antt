@@ -16,12 +16,12 @@ use Rattle.rules.specs.Version.{current, routes}
 use Rattle.rules.specs.Region.{filled, fitsWidth}
 use Rattle.rules.specs.Address.{prefixMask, prefixLength, isIpv6, isRoutedType, addressBytes, addressBits, alignedHigh, alignedLow, addressIn}
 use Rattle.rules.specs.Registers.{currentTerms}
-use Rattle.rules.specs.Keyed.{insert, replace, remove}
+use Rattle.rules.specs.Keyed.{holds, insert, replace, remove}
 use Rattle.rules.specs.Fields.{rows, ruleIn, ruleOf, hasUser, field, isAbsent, given, value, everyBelow, fieldsRight, flowAny, flow0, flow10, flow20, flow30, flow30v4, flow30v6, flow50, flowDel, group2, groupAny}
 use Rattle.rules.specs.Encode.{regionOf, payloadOf, numberBytes, flowHas, flowValue, flowBytes, flowFields}
 use Rattle.rules.specs.Undo.{flowPayload}
 use Rattle.rules.specs.Decode.{need, carried, ethertypeIn, addressField, maskField, otherAbsent, addressOf, routeOf, matchOf, flowOf, matchAllowed, flowUser, isTable, pairAlone, flowIn as flowFrom, flowKeyIn, isCommand, commandIn, decode}
-use Rattle.rules.specs.Tables.{Tables, storedFlow, flowEntry, cookieOf, addStatus, heldStatus, commandStatus, withFlows, commandEffect, decodedStatus, decodedEffect, executed, carryOut, execute}
+use Rattle.rules.specs.Tables.{Tables, storedFlow, flowEntry, cookieOf, addStatus, heldStatus, commandStatus, commandStatusIn, withFlows, commandEffect, commandEffectIn, decodedStatus, decodedStatusIn, decodedEffect, decodedEffectIn, executed, carryOut, carryOutIn, execute, executeIn}
 use Rattle.rules.specs.declared.Flow.{Flow}
 use Rattle.rules.specs.declared.Command.{Command}
 use Rattle.rules.specs.declared.Command.the-variants.{FlowAdd, FlowMod, FlowDel}
@@ -388,18 +388,18 @@ module _ (ports : ℕ) (e : FlowEntry) (a : FlowAdmitted ports e) where
 
   -- THE ROUND TRIP: what each payload does to any tables
   pub flow-add : (t : Tables) → execute (currentTerms ports) (flowPayload 3 e) t
-      ≡ executed t (addStatus cookieOf maxFlows (e .cookie) (t .flows)) (withFlows t (insert cookieOf e (t .flows)))
-  unfolding execute carryOut carried decodedStatus decodedEffect commandStatus commandEffect flowIn
+      ≡ executed t (addStatus (holds cookieOf) maxFlows (e .cookie) (t .flows)) (withFlows t (insert cookieOf e (t .flows)))
+  unfolding executeIn carryOutIn carried decodedStatusIn decodedEffectIn commandStatusIn commandEffectIn flowIn
   flow-add t = rw (decode-add, a .stored)
 
   pub flow-mod : (t : Tables) → execute (currentTerms ports) (flowPayload 4 e) t
-      ≡ executed t (heldStatus cookieOf (e .cookie) (t .flows)) (withFlows t (replace cookieOf e (t .flows)))
-  unfolding execute carryOut carried decodedStatus decodedEffect commandStatus commandEffect flowIn
+      ≡ executed t (heldStatus (holds cookieOf) (e .cookie) (t .flows)) (withFlows t (replace cookieOf e (t .flows)))
+  unfolding executeIn carryOutIn carried decodedStatusIn decodedEffectIn commandStatusIn commandEffectIn flowIn
   flow-mod t = rw (decode-mod, a .stored)
 
   pub flow-del : (t : Tables) → execute (currentTerms ports) (flowPayload 5 e) t
-      ≡ executed t (heldStatus cookieOf (e .cookie) (t .flows)) (withFlows t (remove cookieOf (e .cookie) (t .flows)))
-  unfolding execute carryOut carried decodedStatus decodedEffect commandStatus commandEffect
+      ≡ executed t (heldStatus (holds cookieOf) (e .cookie) (t .flows)) (withFlows t (remove cookieOf (e .cookie) (t .flows)))
+  unfolding executeIn carryOutIn carried decodedStatusIn decodedEffectIn commandStatusIn commandEffectIn
   flow-del t = rw decode-del
 
 -- ---- Length

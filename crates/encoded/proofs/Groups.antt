@@ -17,9 +17,9 @@ use Rattle.rules.specs.Fields.{rows, ruleIn, ruleOf, hasUser, field, value, nes
 use Rattle.rules.specs.GroupId.{groupType, groupVlan, groupLow, vlanAllowed, isRouting, memberId}
 use Rattle.rules.specs.Members.{membersRight, pad}
 use Rattle.rules.specs.Registers.{currentTerms}
-use Rattle.rules.specs.Keyed.{insert, replace, remove}
+use Rattle.rules.specs.Keyed.{holds, insert, replace, remove}
 use Rattle.rules.specs.Decode.{need, carried, groupOf, membersOf, lowerFits, groupAllowed, groupUser, groupIn, groupKeyIn, isCommand, commandIn}
-use Rattle.rules.specs.Tables.{Tables, idOf, groupEntry, withGroups, addStatus, heldStatus, commandStatus, commandEffect, decodedStatus, decodedEffect, executed, carryOut, execute}
+use Rattle.rules.specs.Tables.{Tables, idOf, groupEntry, withGroups, addStatus, heldStatus, commandStatus, commandStatusIn, commandEffect, commandEffectIn, decodedStatus, decodedStatusIn, decodedEffect, decodedEffectIn, executed, carryOut, carryOutIn, execute, executeIn}
 use Rattle.rules.specs.Encode.{regionOf, payloadOf, numberBytes, memberFields, groupValue, groupBytes, groupFields}
 use Rattle.rules.specs.Undo.{groupPayload}
 use Rattle.rules.specs.declared.Group.{Group}
@@ -225,26 +225,26 @@ module _ (ports : ℕ) (e : GroupEntry) (a : GroupAdmitted ports e) where
     carries : (who command : ℕ) (c : Command) (lows : List ℕ) → command < 2 ^ 16 → isCommand command ≡ true
         → commandIn (currentTerms ports) command (regionOf (groupFields who e)) ≡ carried c lows
         → execute (currentTerms ports) (payloadOf command (groupFields who e)) t ≡ executed t (commandStatus t c) (commandEffect t c (pad lows))
-    unfolding execute carryOut carried decodedStatus decodedEffect groupFields
+    unfolding executeIn carryOutIn carried decodedStatusIn decodedEffectIn groupFields
     carries who command c lows fits known is =
         let encodable = fields-encodable who (λ t. true) (groupBytes e) encodable-length in
         let decoded = decode-payload command (groupFields who e) fits (omega (arith, fields-short who)) ports known encodable in
         rw (decoded, is)
 
-    pub group-add : execute (currentTerms ports) (groupPayload 7 e) t ≡ executed t (addStatus idOf maxGroups (e .id) (t .groups)) (withGroups t (insert idOf e (t .groups)))
-    unfolding groupPayload isCommand commandIn commandStatus commandEffect
+    pub group-add : execute (currentTerms ports) (groupPayload 7 e) t ≡ executed t (addStatus (holds idOf) maxGroups (e .id) (t .groups)) (withGroups t (insert idOf e (t .groups)))
+    unfolding groupPayload isCommand commandIn commandStatusIn commandEffectIn
     group-add =
         carries (groupUser (e .id)) 7 (GroupAdd (headOf e)) (a .lows) (omega arith) refl (group-in GroupAdd)
         ∙ rw stored
 
-    pub group-mod : execute (currentTerms ports) (groupPayload 8 e) t ≡ executed t (heldStatus idOf (e .id) (t .groups)) (withGroups t (replace idOf e (t .groups)))
-    unfolding groupPayload isCommand commandIn commandStatus commandEffect
+    pub group-mod : execute (currentTerms ports) (groupPayload 8 e) t ≡ executed t (heldStatus (holds idOf) (e .id) (t .groups)) (withGroups t (replace idOf e (t .groups)))
+    unfolding groupPayload isCommand commandIn commandStatusIn commandEffectIn
     group-mod =
         carries (groupUser (e .id)) 8 (GroupMod (headOf e)) (a .lows) (omega arith) refl (group-in GroupMod)
         ∙ rw stored
 
-    pub group-del : execute (currentTerms ports) (groupPayload 9 e) t ≡ executed t (heldStatus idOf (e .id) (t .groups)) (withGroups t (remove idOf (e .id) (t .groups)))
-    unfolding groupPayload isCommand commandIn commandStatus commandEffect
+    pub group-del : execute (currentTerms ports) (groupPayload 9 e) t ≡ executed t (heldStatus (holds idOf) (e .id) (t .groups)) (withGroups t (remove idOf (e .id) (t .groups)))
+    unfolding groupPayload isCommand commandIn commandStatusIn commandEffectIn
     group-del = carries groupDel 9 (GroupDel (e .id)) [] (omega arith) refl group-key-in
 
 pub group-short : (ports command : ℕ) (e : GroupEntry) → GroupAdmitted ports e → length (groupPayload command e) ≤ 4096

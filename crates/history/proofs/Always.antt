@@ -14,7 +14,7 @@ use Rattle.rules.specs.Limits.{maxCredits}
 use Rattle.rules.specs.Bytes.{inside}
 use Rattle.rules.specs.Registers.{commandRing}
 use Rattle.rules.specs.Descriptor.{descriptorAt, slotRefusal}
-use Rattle.rules.specs.Switch.{Switch, Borrowed, unchanged, readEffect, writeEffect, linked, slotRecord, bufferRefusal, processRefusal, processEffect, framed, headed, refusal, effect, step}
+use Rattle.rules.specs.Switch.{Switch, Borrowed, unchanged, readEffect, writeEffect, linked, slotRecord, bufferRefusal, processRefusal, processRefusalBy, processEffect, processEffectBy, framed, headed, refusal, refusalBy, effect, effectBy, step}
 use Rattle.rules.specs.declared.Request.{Request}
 use Rattle.rules.specs.declared.Request.the-variants.{Read, Write, Link, Process, Frame, Header}
 use Rattle.rules.proofs.Cases.{by-eq}
@@ -23,7 +23,7 @@ use Rattle.history.specs.Trace.{Call, Seen, stepAt, seen, final, trace, 
 
 -- an effect answers 0
 pub effect-answers : (s : Switch) (b : Borrowed) (r : Request) → effect s b r .answer ≡ 0
-unfolding effect readEffect writeEffect linked processEffect framed headed
+unfolding effectBy readEffect writeEffect linked processEffectBy framed headed
 effect-answers s b (Read offset width) = refl
 effect-answers s b (Write offset width value) = refl
 effect-answers s b (Link port up) = refl
@@ -67,15 +67,15 @@ first true rest k = (λ e. refl, λ e. refl)
 first false rest k = (λ e. absurd (k e), λ e. absurd (let z : _≡_ {A = ℕ} 0 1 = cc in omega arith))
 
 pub process-idle : (s : Switch) (b : Borrowed) → (step s b Process .answer ≡ 3) ↔ (commandRing (s .registers) .head ≡ commandRing (s .registers) .tail)
-unfolding processRefusal slotRefusal bufferRefusal
+unfolding processRefusalBy slotRefusal bufferRefusal
 process-idle s b =
     let x = first (eqb (commandRing (s .registers) .head) (commandRing (s .registers) .tail)) _
     (later (leb maxCredits (commandRing (s .registers) .credits)) 4 _ (omega arith)
     (later (not (inside (descriptorAt (commandRing (s .registers))) 32 (b .memory))) 5 _ (omega arith)
     (later (ltb (length (b .buffer)) (length (slotRecord s (b .memory)))) 6 0 (omega arith) (omega arith)))) in
-    let a : step s b Process .answer ≡ processRefusal s b = answer-is s b Process ∙ unfold refusal in refl in
+    let a : step s b Process .answer ≡ processRefusal s b = answer-is s b Process ∙ unfold refusalBy in refl in
     (λ e. eqb-true _ _ (x .0 (sym a ∙ e)), λ e. a ∙ x .1 (eq-eqb _ _ e))
 
 -- a process call that is answered 0 has its effect
 pub process-accepted : (s : Switch) (b : Borrowed) → step s b Process .answer ≡ 0 → step s b Process ≡ processEffect s b
-process-accepted s b e = accepted s b Process (sym (answer-is s b Process) ∙ e) ∙ unfold effect in refl
+process-accepted s b e = accepted s b Process (sym (answer-is s b Process) ∙ e) ∙ unfold effectBy in refl

@@ -16,7 +16,8 @@ use Rattle.rules.specs.Descriptor.Fetched.{Faulty, Payload}
 use Rattle.rules.specs.Registers.{commandRing, currentTerms, termsOf, freshRegisters}
 use Rattle.rules.specs.Tables.{Tables, cookieOf, idOf, execute}
 use Rattle.rules.specs.Journal.{Progress, isUnread, recordAgrees, tablesAfter, counted, ready, finish, finished, endsIn, replay, header, completion}
-use Rattle.rules.specs.Switch.{Switch, Borrowed, freshSwitch, unchanged, carry, carriedSlot, processEffect, headed, effect, step}
+use Rattle.rules.specs.Engine.{Order}
+use Rattle.rules.specs.Switch.{Switch, Borrowed, freshSwitch, unchanged, carry, carryBy, carriedSlot, carriedSlotBy, processEffect, processEffectBy, headed, effect, effectBy, step}
 use Rattle.rules.specs.declared.Terms.{Terms}
 use Rattle.rules.specs.declared.Status.the-variants.{Ok}
 use Rattle.rules.specs.declared.Request.the-variants.{Process, Header}
@@ -40,17 +41,18 @@ use Rattle.history.proofs.Drains.{drain}
 -- ---- A status other than OK
 
 -- leaves the tables
-carry-unpaid : (terms : Terms) (t : Tables) (f : Fetched) → (completion (carry terms t f .status) ≡ completion Ok → ⊥) → carry terms t f .tables ≡ t
-unfolding carry
-carry-unpaid terms t (Faulty e) n = refl
-carry-unpaid terms t (Payload p) n = not-ok-unchanged terms p t (λ e. n (ap completion e))
+carry-unpaid : (terms : Terms) (t : Tables) (o : Order) (f : Fetched) → (completion (carry terms t o f .status) ≡ completion Ok → ⊥)
+    → carry terms t o f .tables ≡ t
+unfolding carryBy
+carry-unpaid terms t o (Faulty e) n = refl
+carry-unpaid terms t o (Payload p) n = not-ok-unchanged terms p t (λ e. n (ap completion e))
 
 process-unpaid : (s : Switch) (b : Borrowed) → (step s b Process .told .completed ≡ completion Ok → ⊥) → step s b Process .switch .tables ≡ s .tables
 process-unpaid s b n =
     by-eq (step s b Process .answer) 0
     (λ e p. rw (process-accepted s b e)
-    (unfold processEffect carriedSlot in
-    carry-unpaid (termsOf (s .registers)) (s .tables) (fetch (b .memory) (descriptor (b .memory) (descriptorAt (commandRing (s .registers)))))
+    (unfold processEffectBy carriedSlotBy in
+    carry-unpaid (termsOf (s .registers)) (s .tables) (s .order) (fetch (b .memory) (descriptor (b .memory) (descriptorAt (commandRing (s .registers)))))
     (rw (process-accepted s b e) at n)))
     (λ ne p. rw (refused s b Process (λ z. ne (answer-is s b Process ∙ z))) (unfold unchanged in refl))
 
@@ -69,7 +71,7 @@ record-unpaid p c payload h n =
 header-writes : (ports : ℕ) (s : Switch) (b : Borrowed) → s .registers .ports ≡ ports → step s b Header .answer ≡ 0
     → (take (step s b Header .told .written) (step s b Header .buffer) ≡ header (currentTerms ports)) × (step s b Header .switch ≡ s)
 header-writes ports s b q e =
-    let x : step s b Header ≡ headed s b = accepted s b Header (sym (answer-is s b Header) ∙ e) ∙ unfold effect in refl in
+    let x : step s b Header ≡ headed s b = accepted s b Header (sym (answer-is s b Header) ∙ e) ∙ unfold effectBy in refl in
     rw x (unfold headed header bytesOf in (rw q (take-splice (header (currentTerms ports)) (b .buffer)), refl))
 
 -- ---- THE THEOREM

@@ -9,7 +9,7 @@ use Rattle.rules.specs.Writes.{memoryAfter}
 use Rattle.rules.specs.Registers.{commandRing}
 use Rattle.rules.specs.Descriptor.{descriptorAt, completionAt}
 use Rattle.rules.specs.Journal.{completion, recordOf}
-use Rattle.rules.specs.Switch.{Switch, Borrowed, carriedSlot, slotRecord, processRefusal, processWrites, processEffect, refusal, step}
+use Rattle.rules.specs.Switch.{Switch, Borrowed, carriedSlot, slotRecord, slotRecordBy, processRefusal, processWrites, processWritesBy, processEffect, processEffectBy, refusal, refusalBy, step}
 use Rattle.rules.specs.declared.Status.{Status}
 use Rattle.rules.specs.declared.Request.the-variants.{Process}
 use Rattle.rules.proofs.Bytes.{two-front}
@@ -31,21 +31,21 @@ module _ (s : Switch) (b : Borrowed) (t : List Seen) (h : RingInvariantOf (comma
   effect-completes e =
       let c = carriedSlot s (b .memory) in
       let slot = process-slot s b (ringOf t) h in
-      let comp : completionIn (slotRecord s (b .memory)) ≡ completion (c .status) = unfold slotRecord in record-completion (c .status) (c .payload) (commandRing (s .registers) .tail) in
+      let comp : completionIn (slotRecord s (b .memory)) ≡ completion (c .status) = unfold slotRecordBy in record-completion (c .status) (c .payload) (commandRing (s .registers) .tail) in
       let n = ring-next h (process-busy s b e) in
       record {
         later = n .0;
         next = rw (process-written s b, slot) (n .1);
         status = c .status;
         recorded = rw (process-written s b) comp;
-        returned = rw (process-written s b, comp) (unfold seen processEffect in refl);
+        returned = rw (process-written s b, comp) (unfold seen processEffectBy in refl);
         inside = rw (process-written s b, slot) (let i = process-inside s b e in unfold seen descriptorAt in i);
-        stamped = rw (process-written s b, slot, comp) (unfold seen processEffect processWrites memoryAfter completionAt descriptorAt in refl);
+        stamped = rw (process-written s b, slot, comp) (unfold seen processEffectBy processWritesBy memoryAfter completionAt descriptorAt in refl);
       }
 
   pub step-completes : step s b Process .answer ≡ 0 → CompletesItsSlot t (seen s b Process (step s b Process))
   step-completes e =
-      rw (process-accepted s b e) (effect-completes (sym (answer-is s b Process ∙ unfold refusal in refl) ∙ e))
+      rw (process-accepted s b e) (effect-completes (sym (answer-is s b Process ∙ unfold refusalBy in refl) ∙ e))
 
 -- a place of the trace: the calls before it, and the call
 pub record Place (s : Switch) (before : List Seen) (x : Seen) : Type 0 where

@@ -5,7 +5,7 @@ use mathlib.Core.Path.{_≡_}
 use native.Mathlib.Omega.{arith}
 use Rattle.rules.specs.Ring.{completeEffect}
 use Rattle.rules.specs.Registers.{commandRing, Written, access, taken, write, withRing, withLinks}
-use Rattle.rules.specs.Switch.{Switch, Borrowed, readEffect, writeEffect, linked, processEffect, framed, headed, refusal, effect}
+use Rattle.rules.specs.Switch.{Switch, Borrowed, readEffect, writeEffect, linked, processEffect, processEffectBy, framed, headed, refusal, refusalBy, effect, effectBy}
 use Rattle.rules.specs.declared.Registers.{Registers}
 use Rattle.rules.specs.declared.Request.{Request}
 use Rattle.rules.specs.declared.Request.the-variants.{Read, Write, Link, Process, Frame, Header}
@@ -32,13 +32,13 @@ event-keeps d w t Processes h x = absurd x
 
 pub credits-keep : (s : Switch) (t : CreditHistory) (m : Borrowed) (r : Request) → CreditInvariant (commandRing (s .registers) .credits) t → refusal s m r ≡ 0
     → CreditInvariant (commandRing (effect s m r .switch .registers) .credits) (notesCredits t (seen s m r (effect s m r)))
-unfolding refusal effect
+unfolding refusalBy effectBy
 credits-keep s t m (Read offset width) h e = unfold notesCredits creditEvent event seen readEffect in h
 credits-keep s t m (Write offset width v) h e =
     unfold notesCredits event seen writeEffect in
     event-keeps (s .registers) (write (s .registers) offset width v) t (writeEvent (access offset width) (taken width v)) h
     (write-does (s .registers) offset width v e)
 credits-keep s t m (Link port up) h e = unfold notesCredits creditEvent event seen linked withLinks in h
-credits-keep s t m Process h e = unfold notesCredits creditEvent event seen processEffect withRing completeEffect in omega arith
+credits-keep s t m Process h e = unfold notesCredits creditEvent event seen processEffectBy withRing completeEffect in omega arith
 credits-keep s t m (Frame port) h e = unfold notesCredits creditEvent event seen framed in h
 credits-keep s t m Header h e = unfold notesCredits creditEvent event seen headed in h

@@ -13,7 +13,7 @@ use Rattle.rules.specs.Bytes.{inside}
 use Rattle.rules.specs.Ring.{distance, completeEffect}
 use Rattle.rules.specs.Descriptor.{descriptorAt, slotRefusal}
 use Rattle.rules.specs.Registers.{commandRing, withRing}
-use Rattle.rules.specs.Switch.{Switch, Borrowed, unchanged, slotRecord, bufferRefusal, processRefusal, processEffect, headed, refusal, effect, step}
+use Rattle.rules.specs.Switch.{Switch, Borrowed, unchanged, slotRecord, bufferRefusal, processRefusal, processRefusalBy, processEffect, processEffectBy, headed, refusal, refusalBy, effect, effectBy, step}
 use Rattle.rules.specs.declared.Request.{Request}
 use Rattle.rules.specs.declared.Request.the-variants.{Read, Write, Link, Process, Frame, Header}
 use Rattle.rules.proofs.Cases.{by-eq, by-test}
@@ -34,7 +34,7 @@ skip false n rest h = refl
 -- a process call that meets none of its refusals is done
 process-done : (s : Switch) (b : Borrowed) → (processRefusal s b ≡ 3 → ⊥) → (processRefusal s b ≡ 4 → ⊥) → (processRefusal s b ≡ 5 → ⊥)
     → (processRefusal s b ≡ 6 → ⊥) → processRefusal s b ≡ 0
-unfolding processRefusal slotRefusal bufferRefusal
+unfolding processRefusalBy slotRefusal bufferRefusal
 process-done s b h3 h4 h5 h6 =
     let e3 = skip (eqb (commandRing (s .registers) .head) (commandRing (s .registers) .tail)) 3 _ h3 in
     let e4 = skip (leb maxCredits (commandRing (s .registers) .credits)) 4 _ (λ e. h4 (e3 ∙ e)) in
@@ -45,7 +45,7 @@ process-done s b h3 h4 h5 h6 =
 nearer : (s : Switch) (b : Borrowed) (h : RingHistory) → RingInvariantOf (commandRing (s .registers)) h → processRefusal s b ≡ 0
     → distance (commandRing (s .registers) .size) (commandRing (s .registers) .tail) (commandRing (s .registers) .head)
     ≡ suc (distance (commandRing (processEffect s b .switch .registers) .size) (commandRing (processEffect s b .switch .registers) .tail) (commandRing (processEffect s b .switch .registers) .head))
-unfolding processEffect withRing completeEffect
+unfolding processEffectBy withRing completeEffect
 nearer s b h t e =
     let r = commandRing (s .registers) in
     let ne = process-busy s b e in
@@ -62,7 +62,7 @@ drain zero s h [] b t l d u =
 drain zero s h (x ∷ bs) b t l d u = absurd (omega arith)
 drain (suc n) s h [] b t l d u = absurd (omega arith)
 drain (suc n) s h (x ∷ bs) b t l d u =
-    let a : step s x Process .answer ≡ processRefusal s x = answer-is s x Process ∙ unfold refusal in refl in
+    let a : step s x Process .answer ≡ processRefusal s x = answer-is s x Process ∙ unfold refusalBy in refl in
     let busy : processRefusal s x ≡ 3 → ⊥ =
     λ e. let q = process-idle s x .0 (a ∙ e) in
     let z : distance (commandRing (s .registers) .size) (commandRing (s .registers) .tail) (commandRing (s .registers) .head) ≡ 0 = rw q (distance-self (commandRing (s .registers) .size) (commandRing (s .registers) .tail) (t .tail-in)) in
@@ -79,7 +79,7 @@ drain (suc n) s h (x ∷ bs) b t l d u =
 header-keeps : (s : Switch) (b : Borrowed) → step s b Header .switch ≡ s
 header-keeps s b =
     by-eq (refusal s b Header) 0
-    (λ e p. rw (accepted s b Header e) (unfold effect headed in refl))
+    (λ e p. rw (accepted s b Header e) (unfold effectBy headed in refl))
     (λ ne p. rw (refused s b Header ne) (unfold unchanged in refl))
 
 header-unnoted : (l : JournalHistory) (s : Switch) (b : Borrowed) → noted notesJournal l (seen s b Header (step s b Header)) ≡ l

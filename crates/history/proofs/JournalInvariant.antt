@@ -14,7 +14,8 @@ use Rattle.rules.specs.Registers.{commandRing, currentTerms, termsOf, Written, 
 use Rattle.rules.specs.Tables.{Tables, emptyTables}
 use Rattle.rules.specs.Version.{known}
 use Rattle.rules.specs.Journal.{Progress, begin, ready, opened, feeds, counted, header, completion}
-use Rattle.rules.specs.Switch.{Switch, Borrowed, Carried, carry, carriedSlot, slotRecord, readEffect, writeEffect, linked, processEffect, framed, headed, refusal, effect}
+use Rattle.rules.specs.Engine.{Order}
+use Rattle.rules.specs.Switch.{Switch, Borrowed, Carried, carry, carryBy, carriedSlot, carriedSlotBy, slotRecord, slotRecordBy, readEffect, writeEffect, linked, processEffect, processEffectBy, framed, headed, refusal, refusalBy, effect, effectBy}
 use Rattle.rules.specs.declared.Terms.{Terms}
 use Rattle.rules.specs.declared.Request.{Request}
 use Rattle.rules.specs.declared.Request.the-variants.{Read, Write, Link, Process, Frame, Header}
@@ -70,30 +71,30 @@ module _ (ports : ℕ) (s : Switch) (m : Borrowed) (l : JournalHistory) (x : See
 -- ---- A process call: its record is read, and replay agrees
 
 -- a slot carried out keeps the order
-carry-good : (terms : Terms) (t : Tables) (f : Fetched) → Good t → Good (carry terms t f .tables)
-unfolding carry
-carry-good terms t (Faulty e) g = g
-carry-good terms t (Payload p) g = execute-good terms p t g
+carry-good : (terms : Terms) (t : Tables) (o : Order) (f : Fetched) → Good t → Good (carry terms t o f .tables)
+unfolding carryBy
+carry-good terms t o (Faulty e) g = g
+carry-good terms t o (Payload p) g = execute-good terms p t g
 
 process-keeps : (ports : ℕ) (s : Switch) (l : JournalHistory) (m : Borrowed) → JournalInvariant ports s l
     → JournalInvariant ports (processEffect s m .switch) (withRecord l (completion (carriedSlot s (m .memory) .status)) (slotRecord s (m .memory)))
-unfolding processEffect withRecord slotRecord carriedSlot counted withRing
+unfolding processEffectBy withRecord slotRecordBy carriedSlotBy counted withRing
 process-keeps ports s l m h =
     let d = descriptor (m .memory) (descriptorAt (commandRing (s .registers))) in
-    let c : Carried = carry (currentTerms ports) (s .tables) (fetch (m .memory) d) in
+    let c : Carried = carry (currentTerms ports) (s .tables) (s .order) (fetch (m .memory) d) in
     let p : Progress = account ports (s .tables) l in
-    let short = fetch-short (currentTerms ports) (s .tables) (m .memory) d in
+    let short = fetch-short (currentTerms ports) (s .tables) (s .order) (m .memory) d in
     record {
       ports-are = h .ports-are;
       low = h .low;
       high = h .high;
-      in-order = carry-good (termsOf (s .registers)) (s .tables) (fetch (m .memory) d) (h .in-order);
-      reads = rw (h .ports-are, ← append-assoc, feeds-append, h .reads, record-reads p (c .status) (commandRing (s .registers) .tail) (c .payload) (omega arith)) (fetch-agrees p (m .memory) d);
+      in-order = carry-good (termsOf (s .registers)) (s .tables) (s .order) (fetch (m .memory) d) (h .in-order);
+      reads = rw (h .ports-are, ← append-assoc, feeds-append, h .reads, record-reads p (c .status) (commandRing (s .registers) .tail) (c .payload) (omega arith)) (fetch-agrees p (s .order) (m .memory) d);
     }
 
 pub journal-keeps : (ports : ℕ) (s : Switch) (l : JournalHistory) (m : Borrowed) (r : Request) → JournalInvariant ports s l → refusal s m r ≡ 0
     → JournalInvariant ports (effect s m r .switch) (notesJournal l (seen s m r (effect s m r)))
-unfolding refusal effect
+unfolding refusalBy effectBy
 journal-keeps ports s l m (Read offset width) h e = unfold notesJournal journalEvent event seen readEffect in h
 journal-keeps ports s l m (Write offset width v) h e =
     unfold notesJournal event seen in
@@ -103,6 +104,6 @@ journal-keeps ports s l m (Link port up) h e = unfold notesJournal journalEvent 
 journal-keeps ports s l m Process h e = unfold notesJournal journalEvent event in rw (process-written s m) (unfold seen in record-kept)
   where
     record-kept : JournalInvariant ports (processEffect s m .switch) (withRecord l (processEffect s m .told .completed) (slotRecord s (m .memory)))
-    record-kept = let k = process-keeps ports s l m h in unfold processEffect in k
+    record-kept = let k = process-keeps ports s l m h in unfold processEffectBy in k
 journal-keeps ports s l m (Frame port) h e = unfold notesJournal journalEvent event seen framed in h
 journal-keeps ports s l m Header h e = unfold notesJournal journalEvent event seen headed in h

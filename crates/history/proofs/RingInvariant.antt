@@ -16,7 +16,7 @@ use Rattle.rules.specs.Bytes.{inside}
 use Rattle.rules.specs.Ring.{distance, completeEffect}
 use Rattle.rules.specs.Descriptor.{descriptorAt, slotRefusal}
 use Rattle.rules.specs.Registers.{commandRing, Written, access, taken, write, withRing, withLinks}
-use Rattle.rules.specs.Switch.{Switch, Borrowed, carriedSlot, slotRecord, processRefusal, readEffect, writeEffect, linked, processEffect, framed, headed, refusal, effect}
+use Rattle.rules.specs.Switch.{Switch, Borrowed, carriedSlot, slotRecord, slotRecordBy, processRefusal, processRefusalBy, readEffect, writeEffect, linked, processEffect, processEffectBy, framed, headed, refusal, refusalBy, effect, effectBy}
 use Rattle.rules.specs.declared.Ring.{Ring}
 use Rattle.rules.specs.declared.Registers.{Registers}
 use Rattle.rules.specs.declared.Request.{Request}
@@ -124,11 +124,11 @@ passed false n rest e = (refl, e)
 
 -- answered 0: head is not tail, and the descriptor is inside memory
 pub process-busy : (s : Switch) (m : Borrowed) → processRefusal s m ≡ 0 → commandRing (s .registers) .head ≡ commandRing (s .registers) .tail → ⊥
-unfolding processRefusal slotRefusal
+unfolding processRefusalBy slotRefusal
 process-busy s m e = eqb-false _ _ (passed (eqb (commandRing (s .registers) .head) (commandRing (s .registers) .tail)) 2 _ e .0)
 
 pub process-inside : (s : Switch) (m : Borrowed) → processRefusal s m ≡ 0 → descriptorAt (commandRing (s .registers)) + 32 ≤ length (m .memory)
-unfolding processRefusal slotRefusal inside
+unfolding processRefusalBy slotRefusal inside
 process-inside s m e =
     let a = passed (eqb (commandRing (s .registers) .head) (commandRing (s .registers) .tail)) 2 _ e in
     let b = passed (leb maxCredits (commandRing (s .registers) .credits)) 3 _ (a .1) in
@@ -137,29 +137,29 @@ process-inside s m e =
 
 -- the bytes that it writes are the record, which has the slot
 pub process-written : (s : Switch) (m : Borrowed) → seen s m Process (processEffect s m) .written ≡ slotRecord s (m .memory)
-unfolding seen processEffect
+unfolding seen processEffectBy
 process-written s m = take-splice (slotRecord s (m .memory)) (m .buffer)
 
 pub process-slot : (s : Switch) (m : Borrowed) (b : RingHistory) → RingInvariantOf (commandRing (s .registers)) b
     → slotIn (slotRecord s (m .memory)) ≡ commandRing (s .registers) .tail
-unfolding slotRecord slotIn
+unfolding slotRecordBy slotIn
 process-slot s m b h =
     record-slot (carriedSlot s (m .memory) .status) (carriedSlot s (m .memory) .payload) (commandRing (s .registers) .tail)
     (omega (arith, h .tail-in, h .small))
 
 pub process-keeps : (s : Switch) (m : Borrowed) (b : RingHistory) → RingInvariantOf (commandRing (s .registers)) b → processRefusal s m ≡ 0
     → RingInvariantOf (commandRing (processEffect s m .switch .registers)) (notesRing b (seen s m Process (processEffect s m)))
-unfolding notesRing notesEvent event processEffect seen
+unfolding notesRing notesEvent event processEffectBy seen
 process-keeps s m b h e =
     let r = commandRing (s .registers) in
     let ne = process-busy s m e in
     let ht : r .tail < r .size = omega (arith, ne, h .tail-in, h .head-in) in
     rw (process-written s m, process-slot s m b h)
-    (unfold processEffect withRing completeEffect in rw (next-is (r .size) (r .tail) ht) (ring-consumed h ne))
+    (unfold processEffectBy withRing completeEffect in rw (next-is (r .size) (r .tail) ht) (ring-consumed h ne))
 
 pub ring-keeps : (s : Switch) (b : RingHistory) (m : Borrowed) (r : Request) → RingInvariantOf (commandRing (s .registers)) b → refusal s m r ≡ 0
     → RingInvariantOf (commandRing (effect s m r .switch .registers)) (notesRing b (seen s m r (effect s m r)))
-unfolding refusal effect
+unfolding refusalBy effectBy
 ring-keeps s b m (Read offset width) h e = unfold notesRing notesEvent event seen readEffect in h
 ring-keeps s b m (Write offset width v) h e =
     unfold notesRing event seen writeEffect in

@@ -23,7 +23,7 @@ use Rattle.rules.specs.Keyed.{insert, replace, remove}
 use Rattle.rules.specs.GroupId.{groupType, groupVlan, groupLow, vlanAllowed, isRouting, groupIdAllowed}
 use Rattle.rules.specs.Members.{elem, memberRight, collect, membersIn, membersRight, pad}
 use Rattle.rules.specs.Decode.{headerOf, ethertypeIn, addressField, addressOf, routeOf, newVlanFits, matchAllowed, matchOf, flowOf, flowUser, isTable, pairAlone, flowIn, flowKeyIn, groupOf, membersOf, lowerFits, groupAllowed, groupUser, groupIn, groupKeyIn, refused, carried, need, commandIn, commandInfo, decode}
-use Rattle.rules.specs.Tables.{Tables, storedFlow, flowEntry, groupEntry, cookieOf, idOf, emptyTables, withFlows, withGroups, commandEffect, decodedStatus, decodedEffect, executed, carryOut, execute}
+use Rattle.rules.specs.Tables.{Tables, storedFlow, flowEntry, groupEntry, cookieOf, idOf, emptyTables, withFlows, withGroups, commandEffect, commandEffectIn, decodedStatus, decodedEffect, decodedEffectIn, executed, carryOut, carryOutIn, execute, executeIn}
 use Rattle.rules.specs.declared.Terms.{Terms}
 use Rattle.rules.specs.declared.Tlv.{Tlv}
 use Rattle.rules.specs.declared.Found.{Found}
@@ -560,7 +560,7 @@ module _ {A : Type 0} (key : A → ℕ) (P : A → Type 0) where
       (λ t. by-test (eqb (key g) k) (λ u. rw (t, u) (h .1)) (λ u. rw (t, u) h))
 
 effect-admits : (terms : Terms) (t : Tables) (c : Command) (m : List ℕ) → Admitted (terms .ports) t → Stores terms m c → Admitted (terms .ports) (commandEffect t c m)
-unfolding commandEffect withFlows withGroups
+unfolding commandEffectIn withFlows withGroups
 effect-admits terms t (FlowAdd f) m a s =
     record { flows-are = each-insert cookieOf (FlowAdmitted (terms .ports)) (flowEntry f) (t .flows) s (a .flows-are); groups-are = a .groups-are }
 effect-admits terms t (FlowMod f) m a s =
@@ -575,7 +575,7 @@ effect-admits terms t (GroupDel k) m a s =
     record { flows-are = a .flows-are; groups-are = each-remove idOf (GroupAdmitted (terms .ports)) k (t .groups) (a .groups-are) }
 
 decoded-admits : (terms : Terms) (t : Tables) (w : Decoded) (m : List ℕ) → Admitted (terms .ports) t → StoresBy terms m w → Admitted (terms .ports) (decodedEffect t w m)
-unfolding decodedEffect
+unfolding decodedEffectIn
 decoded-admits terms t (Carry c) m a s = effect-admits terms t c m a s
 decoded-admits terms t (Refused e) m a s = a
 
@@ -585,7 +585,7 @@ empty-admits ports = record { flows-are = tt; groups-are = tt }
 
 -- THE LAW: every payload of bytes keeps admitted tables
 pub execute-admits : (terms : Terms) (payload : List ℕ) (t : Tables) → AreBytes payload → Admitted (terms .ports) t → Admitted (terms .ports) (execute terms payload t .tables)
-unfolding execute carryOut executed
+unfolding executeIn carryOutIn executed
 execute-admits terms payload t b a =
     let d = decode terms payload in
     by-test (eqb (code (decodedStatus t (d .what))) 0)

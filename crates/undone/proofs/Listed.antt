@@ -8,7 +8,7 @@ use mathlib.Core.List.{List, [], _∷_, _++_, map}
 use lib.ListN.{length}
 use Rattle.rules.specs.Limits.{maxFlows, maxGroups, maxPayload}
 use Rattle.rules.specs.Answers.{code}
-use Rattle.rules.specs.Keyed.{find, insert, replace, remove}
+use Rattle.rules.specs.Keyed.{holds, find, insert, replace, remove}
 use Rattle.rules.specs.Tables.{Tables, cookieOf, idOf, addStatus, heldStatus, withFlows, withGroups, executed, execute}
 use Rattle.rules.specs.Undo.{sameFlow, sameGroup, picks, picked, flowPayload, groupPayload, flowRun, groupRun, payloads}
 use Rattle.rules.specs.declared.Terms.{Terms}
@@ -102,10 +102,10 @@ module _ (terms : Terms) {A : Type 0} (get : Tables → List A) (put : Tables �
 module _ {A : Type 0} (key : A → ℕ) where
   -- the statuses of del and mod, and of add
   abbrev heldOf : A → List A → Status
-  heldOf e l = heldStatus key (key e) l
+  heldOf e l = heldStatus (holds key) (key e) l
 
   abbrev addOf : ℕ → A → List A → Status
-  addOf limit e l = addStatus key limit (key e) l
+  addOf limit e l = addStatus (holds key) limit (key e) l
 
   held-done : (e : A) (l : List A) → Held key true e l → heldOf e l ≡ Ok
   unfolding heldStatus
@@ -141,17 +141,17 @@ module _ (terms : Terms) {A : Type 0} (get : Tables → List A) (put : Tables �
 
 module _ (terms : Terms)
     (flow-add : (e : FlowEntry) → FlowAdmitted (terms .ports) e → (t : Tables)
-    → execute terms (flowPayload 3 e) t ≡ executed t (addStatus cookieOf maxFlows (e .cookie) (t .flows)) (withFlows t (insert cookieOf e (t .flows))))
+    → execute terms (flowPayload 3 e) t ≡ executed t (addStatus (holds cookieOf) maxFlows (e .cookie) (t .flows)) (withFlows t (insert cookieOf e (t .flows))))
     (flow-mod : (e : FlowEntry) → FlowAdmitted (terms .ports) e → (t : Tables)
-    → execute terms (flowPayload 4 e) t ≡ executed t (heldStatus cookieOf (e .cookie) (t .flows)) (withFlows t (replace cookieOf e (t .flows))))
+    → execute terms (flowPayload 4 e) t ≡ executed t (heldStatus (holds cookieOf) (e .cookie) (t .flows)) (withFlows t (replace cookieOf e (t .flows))))
     (flow-del : (e : FlowEntry) → FlowAdmitted (terms .ports) e → (t : Tables)
-    → execute terms (flowPayload 5 e) t ≡ executed t (heldStatus cookieOf (e .cookie) (t .flows)) (withFlows t (remove cookieOf (e .cookie) (t .flows))))
+    → execute terms (flowPayload 5 e) t ≡ executed t (heldStatus (holds cookieOf) (e .cookie) (t .flows)) (withFlows t (remove cookieOf (e .cookie) (t .flows))))
     (group-add : (e : GroupEntry) → GroupAdmitted (terms .ports) e → (t : Tables)
-    → execute terms (groupPayload 7 e) t ≡ executed t (addStatus idOf maxGroups (e .id) (t .groups)) (withGroups t (insert idOf e (t .groups))))
+    → execute terms (groupPayload 7 e) t ≡ executed t (addStatus (holds idOf) maxGroups (e .id) (t .groups)) (withGroups t (insert idOf e (t .groups))))
     (group-mod : (e : GroupEntry) → GroupAdmitted (terms .ports) e → (t : Tables)
-    → execute terms (groupPayload 8 e) t ≡ executed t (heldStatus idOf (e .id) (t .groups)) (withGroups t (replace idOf e (t .groups))))
+    → execute terms (groupPayload 8 e) t ≡ executed t (heldStatus (holds idOf) (e .id) (t .groups)) (withGroups t (replace idOf e (t .groups))))
     (group-del : (e : GroupEntry) → GroupAdmitted (terms .ports) e → (t : Tables)
-    → execute terms (groupPayload 9 e) t ≡ executed t (heldStatus idOf (e .id) (t .groups)) (withGroups t (remove idOf (e .id) (t .groups)))) where
+    → execute terms (groupPayload 9 e) t ≡ executed t (heldStatus (holds idOf) (e .id) (t .groups)) (withGroups t (remove idOf (e .id) (t .groups)))) where
   -- EVERY PAYLOAD COMPLETES OK, AND THE TABLES AFTER THEM ARE THE EARLIER ONES
   pub gives-back : (earlier now : Tables) → Good earlier → Good now → Admitted (terms .ports) earlier → Admitted (terms .ports) now
       → AllOk terms (payloads earlier now) now × (carriedAll terms (payloads earlier now) now ≡ earlier)

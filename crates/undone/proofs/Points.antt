@@ -17,7 +17,7 @@ use Rattle.rules.specs.GroupId.{groupType, groupVlan, groupLow, vlanAllowed, ha
 use Rattle.rules.specs.Members.{elem, memberRight, collect, membersIn, membersRight, pad}
 use Rattle.rules.specs.Decode.{refused, carried, need, ethertypeIn, addressField, maskField, otherAbsent, addressOf, routeOf, matchOf, flowOf, groupFits, newVlanFits, matchAllowed, flowUser, isTable, pairAlone, flowIn, flowKeyIn, groupOf, membersOf, lowerFits, groupAllowed, groupUser, groupIn, groupKeyIn, isCommand, commandIn, commandType, commandInfo, decode}
 use Rattle.rules.specs.Keyed.{position, holds, find, insert, replace, remove}
-use Rattle.rules.specs.Tables.{storedFlow, flowEntry, groupEntry, emptyTables, addStatus, heldStatus, commandStatus, withFlows, withGroups, commandEffect, decodedStatus, decodedEffect, executed, carryOut, execute}
+use Rattle.rules.specs.Tables.{storedFlow, flowEntry, groupEntry, emptyTables, addStatus, heldStatus, commandStatus, commandStatusIn, withFlows, withGroups, commandEffect, commandEffectIn, decodedStatus, decodedStatusIn, decodedEffect, decodedEffectIn, executed, carryOut, carryOutIn, execute, executeIn}
 use Rattle.rules.specs.Journal.{completion, header, recordOf, begin, ready, stopped, headerRefusal, termsIn, opened, headerRead, isUnread, recordAgrees, tablesAfter, counted, recordRead, whole, feed, feeds, endsIn, finished, finish, replay, digits, decimal, item, line, report}
 use Rattle.rules.specs.Encode.{tlvOf, regionOf, payloadOf, fieldsFrom, fieldsOf, numberBytes, flowHas, flowValue, flowBytes, flowFields, memberFields, groupValue, groupBytes, groupFields}
 use Rattle.rules.specs.Undo.{recordSize, recordsSize, firstRecords, tablesIn, tablesThen, sameBit, sameList, sameFlow, sameGroup, picked, flowPayload, groupPayload, flowRun, groupRun, payloads, listed, refusedUndo, writtenUndo, fitted, undoFrom, undo, undoReport}
@@ -172,5 +172,5 @@ points =
     ∷ [])))
 
 points-hold : all points ≡ true
-unfolding points undoing asked top tlv outPport groupId popVlan adding deleting addingAgain one two valued cookie route route4 route6 routing removed unrouting night evening code le leAt bytesOf swap16 swapped part inside splice bit known headerCounted headerBytes routes prefixMask lengthFrom prefixLength isIpv6 isRoutedType addressBytes addressBits alignedHigh alignedLow addressIn isUnicast valueSize filled tlvAt tlvEnd isTlv stepAt walk tlvs endOf wellFormed fitsWidth meet scan lookup rows memberWidth ruleIn ruleOf field isAt isAbsent numberIn nestIn given value right hasUser fieldRight everyBelow fieldsRight groupType groupVlan groupLow vlanAllowed hasMembers isRouting groupIdAllowed memberId elem memberRight collect membersIn membersRight pad refused carried need ethertypeIn addressField maskField otherAbsent addressOf routeOf matchOf flowOf groupFits newVlanFits matchAllowed flowUser isTable pairAlone flowIn flowKeyIn groupOf membersOf lowerFits groupAllowed groupUser groupIn groupKeyIn isCommand commandIn commandType commandInfo decode position holds find insert replace remove storedFlow flowEntry groupEntry emptyTables addStatus heldStatus commandStatus withFlows withGroups commandEffect decodedStatus decodedEffect executed carryOut execute completion header recordOf begin ready stopped headerRefusal termsIn opened headerRead isUnread recordAgrees tablesAfter counted recordRead whole feed feeds endsIn finished finish replay portCountAllowed digits decimal item line report lengthField tlvOf regionOf payloadOf fieldsFrom fieldsOf numberBytes flowHas flowValue flowBytes flowFields memberFields groupValue groupBytes groupFields recordSize recordsSize firstRecords tablesIn tablesThen sameBit sameList sameFlow sameGroup picked flowPayload groupPayload flowRun groupRun payloads listed refusedUndo writtenUndo fitted undoFrom undo undoReport
+unfolding points undoing asked top tlv outPport groupId popVlan adding deleting addingAgain one two valued cookie route route4 route6 routing removed unrouting night evening code le leAt bytesOf swap16 swapped part inside splice bit known headerCounted headerBytes routes prefixMask lengthFrom prefixLength isIpv6 isRoutedType addressBytes addressBits alignedHigh alignedLow addressIn isUnicast valueSize filled tlvAt tlvEnd isTlv stepAt walk tlvs endOf wellFormed fitsWidth meet scan lookup rows memberWidth ruleIn ruleOf field isAt isAbsent numberIn nestIn given value right hasUser fieldRight everyBelow fieldsRight groupType groupVlan groupLow vlanAllowed hasMembers isRouting groupIdAllowed memberId elem memberRight collect membersIn membersRight pad refused carried need ethertypeIn addressField maskField otherAbsent addressOf routeOf matchOf flowOf groupFits newVlanFits matchAllowed flowUser isTable pairAlone flowIn flowKeyIn groupOf membersOf lowerFits groupAllowed groupUser groupIn groupKeyIn isCommand commandIn commandType commandInfo decode position holds find insert replace remove storedFlow flowEntry groupEntry emptyTables addStatus heldStatus commandStatusIn withFlows withGroups commandEffectIn decodedStatusIn decodedEffectIn executed carryOutIn executeIn completion header recordOf begin ready stopped headerRefusal termsIn opened headerRead isUnread recordAgrees tablesAfter counted recordRead whole feed feeds endsIn finished finish replay portCountAllowed digits decimal item line report lengthField tlvOf regionOf payloadOf fieldsFrom fieldsOf numberBytes flowHas flowValue flowBytes flowFields memberFields groupValue groupBytes groupFields recordSize recordsSize firstRecords tablesIn tablesThen sameBit sameList sameFlow sameGroup picked flowPayload groupPayload flowRun groupRun payloads listed refusedUndo writtenUndo fitted undoFrom undo undoReport
 points-hold = refl
