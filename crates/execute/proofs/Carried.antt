@@ -7,7 +7,7 @@ use lib.Dec.{eqb}
 use Rattle.rules.specs.Answers.{code}
 use Rattle.rules.specs.Places.{Places, places, live}
 use Rattle.rules.specs.Rows.{entryIn}
-use Rattle.rules.specs.Tables.{Arrays, arrays, cookieOf, idOf, flowEntry, storedFlow, groupEntry, tablesOf, withFlows, withGroups, commandStatus, commandEffect, executed}
+use Rattle.rules.specs.Tables.{Arrays, arrays, cookieOf, idOf, flowEntry, storedFlow, groupEntry, tablesOf, withFlows, withGroups, commandStatusIn, commandEffectIn, executed}
 use Rattle.rules.specs.declared.Counts.{Counts}
 use Rattle.rules.specs.declared.Status.{Status}
 use Rattle.rules.specs.declared.Flow.{Flow}
@@ -20,7 +20,7 @@ use Rattle.rules.proofs.Cases.{by-test}
 use Rattle.rules.proofs.Tables.{cookie-kept}
 use Rattle.tables.specs.Commands.{Changed, Added, Modded, Deleted}
 use Rattle.tables.specs.Groups.{GroupPlaces, groupPlaces, groupsIn}
-use Rattle.execute.specs.Outcome.{Executes}
+use Rattle.execute.specs.Outcome.{Executes, Commands}
 
 module _ (counts : Counts) (a : Arrays) {rule : Status} (status : Status) where
   flows-part : {effect : List FlowEntry} (n : ℕ) (rows : List (List ℕ))
@@ -45,48 +45,44 @@ module _ (counts : Counts) (a : Arrays) {rule : Status} (status : Status) where
         kept = λ z. (ap (λ (t : GroupPlaces). record { flows = counts .flows; groups = t .count }) (h .kept z), ap (λ (t : GroupPlaces). arrays (a .flows) (t .heads) (t .members)) (h .kept z));
       }
 
--- what the rules make of a command on the tables that these counts and arrays hold
-abbrev pub Carries : Counts → Arrays → Command → List ℕ → Status → Counts → Arrays → Type 0
-Carries counts a c m status counts′ a′ =
-    Executes (record { status = status; counts = counts′ }) counts a a′ (executed (tablesOf counts a) (commandStatus (tablesOf counts a) c) (commandEffect (tablesOf counts a) c m))
-
 module _ (counts : Counts) (a : Arrays) (m : List ℕ) (status : Status) (n : ℕ) where
   module _ (rows : List (List ℕ)) where
     abbrev pub FlowsTo : Command → Type 0
     FlowsTo c =
-        Carries counts a c m status (record { flows = n; groups = counts .groups }) (arrays rows (a .heads) (a .members))
+        Commands (record { status = status; counts = record { flows = n; groups = counts .groups } }) counts a (arrays rows (a .heads) (a .members)) c m
 
     module _ (f : Flow) (e : FlowEntry) (is : e ≡ flowEntry f) where
       pub flow-added : Added (live entryIn) cookieOf 256 (places (counts .flows) (a .flows)) e status (places n rows) → FlowsTo (FlowAdd f)
-      unfolding commandStatus commandEffect tablesOf flowEntry storedFlow
+      unfolding commandStatusIn commandEffectIn tablesOf flowEntry storedFlow
       flow-added h = flows-part counts a status n rows (rw (is, cookie-kept f) at h)
 
       pub flow-replaced : Modded (live entryIn) cookieOf 256 (places (counts .flows) (a .flows)) e status (places n rows) → FlowsTo (FlowMod f)
-      unfolding commandStatus commandEffect tablesOf flowEntry storedFlow
+      unfolding commandStatusIn commandEffectIn tablesOf flowEntry storedFlow
       flow-replaced h = flows-part counts a status n rows (rw (is, cookie-kept f) at h)
 
     pub flow-removed : (k : ℕ) → Deleted (live entryIn) cookieOf 256 (places (counts .flows) (a .flows)) k status (places n rows) → FlowsTo (FlowDel k)
-    unfolding commandStatus commandEffect tablesOf
+    unfolding commandStatusIn commandEffectIn tablesOf
     flow-removed k h = flows-part counts a status n rows h
 
   module _ (heads members : List (List ℕ)) where
     abbrev pub GroupsTo : Command → Type 0
-    GroupsTo c = Carries counts a c m status (record { flows = counts .flows; groups = n }) (arrays (a .flows) heads members)
+    GroupsTo c =
+        Commands (record { status = status; counts = record { flows = counts .flows; groups = n } }) counts a (arrays (a .flows) heads members) c m
 
     module _ (g : Group) (e : GroupEntry) (is : e ≡ groupEntry g m) where
       pub group-added : Added groupsIn idOf 128 (groupPlaces (counts .groups) (a .heads) (a .members)) e status (groupPlaces n heads members)
           → GroupsTo (GroupAdd g)
-      unfolding commandStatus commandEffect tablesOf groupsIn groupEntry
+      unfolding commandStatusIn commandEffectIn tablesOf groupsIn groupEntry
       group-added h = groups-part counts a status n heads members (rw is at h)
 
       pub group-replaced : Modded groupsIn idOf 128 (groupPlaces (counts .groups) (a .heads) (a .members)) e status (groupPlaces n heads members)
           → GroupsTo (GroupMod g)
-      unfolding commandStatus commandEffect tablesOf groupsIn groupEntry
+      unfolding commandStatusIn commandEffectIn tablesOf groupsIn groupEntry
       group-replaced h = groups-part counts a status n heads members (rw is at h)
 
     pub group-removed : (k : ℕ) → Deleted groupsIn idOf 128 (groupPlaces (counts .groups) (a .heads) (a .members)) k status (groupPlaces n heads members)
         → GroupsTo (GroupDel k)
-    unfolding commandStatus commandEffect tablesOf groupsIn
+    unfolding commandStatusIn commandEffectIn tablesOf groupsIn
     group-removed k h = groups-part counts a status n heads members h
 
 -- a payload's fault changes nothing

@@ -14,9 +14,12 @@ use rules::Match;
 use rules::Members;
 use rules::Status;
 use tables::Counted;
+ghost use Prim.Native.Nat.{ℕ};
+ghost use mathlib.Core.List.{List};
 ghost use mathlib.Core.Path.{_≡_};
-ghost use Rattle.rules.specs.Tables.{arrays, tablesOf, storedFlow, flowEntry, groupEntry, commandStatus, commandEffect, executed, carryOut};
-ghost use Rattle.execute.specs.Outcome.{Executes};
+ghost use Rattle.rules.specs.Tables.{arrays, tablesOf, storedFlow, flowEntry, groupEntry, carryOut};
+ghost use Rattle.execute.specs.Outcome.{Executes, Commands, OnGroups};
+ghost use Rattle.rules.specs.declared.Command.the-variants.{GroupAdd, GroupMod, GroupDel};
 ghost use Rattle.rules.specs.declared.Match.the-variants.{IngressPort, Vlan, TerminationMac, UnicastRouting, Bridging};
 
 // A payload's status, and how many places of each table are live after it.
@@ -135,7 +138,7 @@ fn bridging_entry(
 }
 
 // A flow as it is stored: with the fields of its table.
-fn flow_entry(f: Flow) -> FlowEntry
+pub fn flow_entry(f: Flow) -> FlowEntry
     ensures { λ r. ⌜ r ≡ flowEntry f ⌝ }
 {
     let m = f.matching;
@@ -215,6 +218,49 @@ fn of_groups(r: Counted, counts: Counts) -> Executed
     }
 }
 
+// The commands of the group table.
+
+pub fn group_add(
+    g: Group,
+    m: Members,
+    counts: Counts,
+    heads: &mut GroupHeads,
+    members: &mut GroupMembers,
+) -> Executed
+    ensures { λ r. ⌜ OnGroups r counts (now (heads .entry)) (now (members .entry)) (now (heads .exit)) (now (members .exit)) (GroupAdd g) m ⌝ }
+{
+    of_groups(
+        tables::group_add(heads, members, counts.groups, group_entry(g, m)),
+        counts,
+    )
+}
+
+pub fn group_mod(
+    g: Group,
+    m: Members,
+    counts: Counts,
+    heads: &mut GroupHeads,
+    members: &mut GroupMembers,
+) -> Executed
+    ensures { λ r. ⌜ OnGroups r counts (now (heads .entry)) (now (members .entry)) (now (heads .exit)) (now (members .exit)) (GroupMod g) m ⌝ }
+{
+    of_groups(
+        tables::group_mod(heads, members, counts.groups, group_entry(g, m)),
+        counts,
+    )
+}
+
+pub fn group_del(
+    id: u32,
+    counts: Counts,
+    heads: &mut GroupHeads,
+    members: &mut GroupMembers,
+) -> Executed
+    ensures { λ r. ⌜ ((m : List ℕ) → OnGroups r counts (now (heads .entry)) (now (members .entry)) (now (heads .exit)) (now (members .exit)) (GroupDel id) m) ⌝ }
+{
+    of_groups(tables::group_del(heads, members, counts.groups, id), counts)
+}
+
 // A command, on the one table that it is about.
 fn command(
     c: Command,
@@ -224,7 +270,7 @@ fn command(
     heads: &mut GroupHeads,
     members: &mut GroupMembers,
 ) -> Executed
-    ensures { λ r. ⌜ Executes r counts (arrays (now (flows .entry)) (now (heads .entry)) (now (members .entry))) (arrays (now (flows .exit)) (now (heads .exit)) (now (members .exit))) (executed (tablesOf counts (arrays (now (flows .entry)) (now (heads .entry)) (now (members .entry)))) (commandStatus (tablesOf counts (arrays (now (flows .entry)) (now (heads .entry)) (now (members .entry)))) c) (commandEffect (tablesOf counts (arrays (now (flows .entry)) (now (heads .entry)) (now (members .entry)))) c m)) ⌝ }
+    ensures { λ r. ⌜ Commands r counts (arrays (now (flows .entry)) (now (heads .entry)) (now (members .entry))) (arrays (now (flows .exit)) (now (heads .exit)) (now (members .exit))) c m ⌝ }
 {
     match c {
         Command::FlowAdd(f) => {
@@ -236,21 +282,9 @@ fn command(
         Command::FlowDel(cookie) => {
             of_flows(tables::flow_del(flows, counts.flows, cookie), counts)
         }
-        Command::GroupAdd(g) => {
-            of_groups(
-                tables::group_add(heads, members, counts.groups, group_entry(g, m)),
-                counts,
-            )
-        }
-        Command::GroupMod(g) => {
-            of_groups(
-                tables::group_mod(heads, members, counts.groups, group_entry(g, m)),
-                counts,
-            )
-        }
-        Command::GroupDel(id) => {
-            of_groups(tables::group_del(heads, members, counts.groups, id), counts)
-        }
+        Command::GroupAdd(g) => group_add(g, m, counts, heads, members),
+        Command::GroupMod(g) => group_mod(g, m, counts, heads, members),
+        Command::GroupDel(id) => group_del(id, counts, heads, members),
     }
 }
 

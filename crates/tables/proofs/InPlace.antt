@@ -6,7 +6,7 @@ use mathlib.Core.Bool.{Bool, true, false}
 use mathlib.Core.Path.{_≡_, ap, sym, _∙_, subst}
 use mathlib.Core.List.{List, map}
 use lib.ListN.{take, set, length-map}
-use Rattle.rules.specs.Keyed.{insert, replace, remove}
+use Rattle.rules.specs.Keyed.{holds, insert, replace, remove}
 use Rattle.rules.specs.Places.{places, live}
 use Rattle.rules.specs.Tables.{addStatus, heldStatus}
 use Rattle.rules.specs.declared.Status.the-variants.{Ok, Enoent, Enomem, Eexist}
@@ -82,11 +82,11 @@ module _ {T R A : Type 0} (liveIn : T → List A) (read : R → A) (key : A → 
         ∙ ap (remove key k) (sym is))
 
     module _ {effect : List A} where
-      pub absent : held ≡ false → Changed liveIn t (heldStatus key k (liveIn t)) effect Enoent t
+      pub absent : held ≡ false → Changed liveIn t (heldStatus (holds key) k (liveIn t)) effect Enoent t
       absent h = not-held liveIn (seen s) h
 
-      pub twice : held ≡ true → Changed liveIn t (addStatus key slots k (liveIn t)) effect Eexist t
+      pub twice : held ≡ true → Changed liveIn t (addStatus (holds key) slots k (liveIn t)) effect Eexist t
       twice h = add-held liveIn (seen s) h
 
-      pub full : held ≡ false → slots ≤ n → Changed liveIn t (addStatus key slots k (liveIn t)) effect Enomem t
+      pub full : held ≡ false → slots ≤ n → Changed liveIn t (addStatus (holds key) slots k (liveIn t)) effect Enomem t
       full h f = add-full liveIn (seen s) h f

@@ -11,9 +11,10 @@ use lib.Dec.{eqb}
 use lib.ListN.{length, take, drop, getD, set, length-take, drop-of-length-le}
 use lib.Seq.{drop-cons, getD-take, take-set-lt}
 use borrow.Author.Tests.{lt-ltb, le-ltb}
-use Rattle.rules.specs.Keyed.{position, holds, insert, replace, remove}
+use Rattle.rules.specs.Keyed.{insertAt, without, position, holds, insert, replace, remove}
+use Rattle.rules.proofs.Keyed.{holds-lt, insert-at, replace-at, remove-at}
 use Rattle.tables.specs.Commands.{Sought}
-use Rattle.tables.proofs.Slots.{insertAt, without, Shifted, fill, take-without-end, take-without, holds-lt, insert-at, replace-at, remove-at, take-live}
+use Rattle.tables.proofs.Slots.{Shifted, opened, closed, take-live}
 
 -- The search for the key k has passed `at` of the n live entries of es, all with lower keys, and found nothing yet
 pub record Searching {A : Type 0} (key : A → ℕ) (slots k n count : ℕ) (es : List A) (at : ℕ) (held : Bool) : Type 0 where
@@ -90,9 +91,8 @@ module _ {A : Type 0} (key : A → ℕ) {slots n at : ℕ} {held : Bool} (count 
       → Shifted slots at n n i es₀ es → i ≤ at → take (n + 1) (set es i e) ≡ insert key e (take count es₀)
   inserted {i} {es₀} {es} e f s h =
       let l : take n es₀ ≡ take count es₀ = rw (f .live) (take-live count es₀) in
-      let p : i ≡ position key (key e) (take count es₀) = omega arith in
-      rw (add-one, fill n i e es (omega arith) (omega arith), s .rest, take-without-end n es₀, l, insert-at key e (take count es₀))
-      (ap (λ (j : ℕ). insertAt j e (take count es₀)) p)
+      opened e s h
+      ∙ rw (l, insert-at key e (take count es₀)) (ap (λ (j : ℕ). insertAt j e (take count es₀)) (f .position-is))
 
   pub replaced : (es : List A) (e : A) → Sought key slots (key e) n (take count es) at held → held ≡ true
       → take count (set es at e) ≡ replace key e (take count es)
@@ -106,10 +106,6 @@ module _ {A : Type 0} (key : A → ℕ) {slots n at : ℕ} {held : Bool} (count 
       → Shifted slots at last at i es₀ es → last ≤ i → take last es ≡ remove key k (take count es₀)
   removed {k} {i} {last} {es₀} {es} f h m s g =
       let b = held-lt f h in
-      let t : suc last ≡ n = omega arith in
-      let l : take (suc last) es₀ ≡ take count es₀ = rw (t ∙ f .live) (take-live count es₀) in
-      let j : i ≡ last = omega arith in
-      let r = rw j at (s .rest) in
-      sym (take-without-end last es)
-      ∙ rw (r, take-without last at es₀ (omega arith), l, remove-at key k (take count es₀) (f .holds-is ∙ h))
-      (ap (λ (p : ℕ). without p (take count es₀)) (f .position-is))
+      let l : take n es₀ ≡ take count es₀ = rw (f .live) (take-live count es₀) in
+      closed n s g (omega arith)
+      ∙ rw (l, remove-at key k (take count es₀) (f .holds-is ∙ h)) (ap (λ (p : ℕ). without p (take count es₀)) (f .position-is))

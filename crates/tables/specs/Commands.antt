@@ -30,10 +30,10 @@ pub record Changed {T A : Type 0} (live : T → List A) (t : T) (rule : Status) 
 
 module _ {T A : Type 0} (live : T → List A) (key : A → ℕ) (slots : ℕ) where
   abbrev pub Added : T → A → Status → T → Type 0
-  Added t e = Changed live t (addStatus key slots (key e) (live t)) (insert key e (live t))
+  Added t e = Changed live t (addStatus (holds key) slots (key e) (live t)) (insert key e (live t))
 
   abbrev pub Modded : T → A → Status → T → Type 0
-  Modded t e = Changed live t (heldStatus key (key e) (live t)) (replace key e (live t))
+  Modded t e = Changed live t (heldStatus (holds key) (key e) (live t)) (replace key e (live t))
 
   abbrev pub Deleted : T → ℕ → Status → T → Type 0
-  Deleted t k = Changed live t (heldStatus key k (live t)) (remove key k (live t))
+  Deleted t k = Changed live t (heldStatus (holds key) k (live t)) (remove key k (live t))

@@ -5,8 +5,12 @@ use rules::FlowEntry;
 use rules::FlowRows;
 use rules::MAX_FLOWS;
 use rules::Status;
+ghost use Prim.Native.Nat.{_+_, _-_};
 ghost use mathlib.Core.Path.{_≡_};
+ghost use lib.Dec.{eqb};
 ghost use lib.ListN.{length, take};
+ghost use Rattle.rules.specs.Answers.{code};
+ghost use Rattle.rules.specs.Choose.{choose};
 ghost use Rattle.rules.specs.Places.{places, live};
 ghost use Rattle.rules.specs.Rows.{cookieIn, entryIn};
 ghost use Rattle.rules.specs.Tables.{cookieOf};
@@ -37,11 +41,11 @@ pub fn flow_find(rows: &FlowRows, count: usize, key: u64) -> Place
     }
 }
 
-// The flow with this cookie replaced.
-pub fn flow_mod(rows: &mut FlowRows, count: usize, e: FlowEntry) -> Counted
-    ensures { λ r. ⌜ Modded (live entryIn) cookieOf maxFlows (places count (now (rows .entry))) e (r .status) (places (r .count) (now (rows .exit))) ⌝ }
+// The flow with this cookie, which was sought, replaced.
+pub fn flow_mod_at(rows: &mut FlowRows, count: usize, p: Place, e: FlowEntry) -> Counted
+    requires { ⌜ (length (now rows) ≡ maxFlows) × Sought cookieIn maxFlows (e .cookie) (p .live) (take count (now rows)) (p .at) (p .held) ⌝ }
+    ensures { λ r. ⌜ Modded (live entryIn) cookieOf maxFlows (places count (now (rows .entry))) e (r .status) (places (r .count) (now (rows .exit))) × (r .count ≡ count) ⌝ }
 {
-    let p = flow_find(rows, count, e.cookie);
     let at = p.at;
     if p.held {
         rows[at] = rows::row_of(e);
@@ -56,11 +60,18 @@ pub fn flow_mod(rows: &mut FlowRows, count: usize, e: FlowEntry) -> Counted
     }
 }
 
-// A flow put in before the first that has a higher cookie, those from there on moved up.
-pub fn flow_add(rows: &mut FlowRows, count: usize, e: FlowEntry) -> Counted
-    ensures { λ r. ⌜ Added (live entryIn) cookieOf maxFlows (places count (now (rows .entry))) e (r .status) (places (r .count) (now (rows .exit))) ⌝ }
+pub fn flow_mod(rows: &mut FlowRows, count: usize, e: FlowEntry) -> Counted
+    ensures { λ r. ⌜ Modded (live entryIn) cookieOf maxFlows (places count (now (rows .entry))) e (r .status) (places (r .count) (now (rows .exit))) ⌝ }
 {
     let p = flow_find(rows, count, e.cookie);
+    flow_mod_at(rows, count, p, e)
+}
+
+// A flow put in before the first that has a higher cookie, those from there on moved up. Its cookie was sought.
+pub fn flow_add_at(rows: &mut FlowRows, count: usize, p: Place, e: FlowEntry) -> Counted
+    requires { ⌜ (length (now rows) ≡ maxFlows) × Sought cookieIn maxFlows (e .cookie) (p .live) (take count (now rows)) (p .at) (p .held) ⌝ }
+    ensures { λ r. ⌜ Added (live entryIn) cookieOf maxFlows (places count (now (rows .entry))) e (r .status) (places (r .count) (now (rows .exit))) × (r .count ≡ choose (eqb (code (r .status)) 0) (p .live + 1) count) ⌝ }
+{
     let at = p.at;
     let n = p.live;
     if p.held {
@@ -89,11 +100,18 @@ pub fn flow_add(rows: &mut FlowRows, count: usize, e: FlowEntry) -> Counted
     }
 }
 
-// The flow with a cookie taken out, those after it moved down.
-pub fn flow_del(rows: &mut FlowRows, count: usize, cookie: u64) -> Counted
-    ensures { λ r. ⌜ Deleted (live entryIn) cookieOf maxFlows (places count (now (rows .entry))) cookie (r .status) (places (r .count) (now (rows .exit))) ⌝ }
+pub fn flow_add(rows: &mut FlowRows, count: usize, e: FlowEntry) -> Counted
+    ensures { λ r. ⌜ Added (live entryIn) cookieOf maxFlows (places count (now (rows .entry))) e (r .status) (places (r .count) (now (rows .exit))) ⌝ }
 {
-    let p = flow_find(rows, count, cookie);
+    let p = flow_find(rows, count, e.cookie);
+    flow_add_at(rows, count, p, e)
+}
+
+// The flow with a cookie, which was sought, taken out, those after it moved down.
+pub fn flow_del_at(rows: &mut FlowRows, count: usize, p: Place, cookie: u64) -> Counted
+    requires { ⌜ (length (now rows) ≡ maxFlows) × Sought cookieIn maxFlows cookie (p .live) (take count (now rows)) (p .at) (p .held) ⌝ }
+    ensures { λ r. ⌜ Deleted (live entryIn) cookieOf maxFlows (places count (now (rows .entry))) cookie (r .status) (places (r .count) (now (rows .exit))) × (r .count ≡ choose (eqb (code (r .status)) 0) (p .live - 1) count) ⌝ }
+{
     let n = p.live;
     if p.held {
         let last = n - 1;
@@ -113,4 +131,11 @@ pub fn flow_del(rows: &mut FlowRows, count: usize, cookie: u64) -> Counted
         status: Status::Enoent,
         count: count,
     }
+}
+
+pub fn flow_del(rows: &mut FlowRows, count: usize, cookie: u64) -> Counted
+    ensures { λ r. ⌜ Deleted (live entryIn) cookieOf maxFlows (places count (now (rows .entry))) cookie (r .status) (places (r .count) (now (rows .exit))) ⌝ }
+{
+    let p = flow_find(rows, count, cookie);
+    flow_del_at(rows, count, p, cookie)
 }

@@ -16,9 +16,12 @@ mod flows;
 mod groups;
 
 pub use flows::flow_add;
+pub use flows::flow_add_at;
 pub use flows::flow_del;
+pub use flows::flow_del_at;
 pub use flows::flow_find;
 pub use flows::flow_mod;
+pub use flows::flow_mod_at;
 pub use groups::group_add;
 pub use groups::group_del;
 pub use groups::group_find;

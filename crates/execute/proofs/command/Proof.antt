@@ -1,7 +1,7 @@
 -- `execute::command` meets its contract: each arm is one law of Carried.
 -- One return a command: each is the law of its table, and the other table stays.
 -- Assumes nothing.
-use Rattle.execute.proofs.Carried.{flow-added, flow-replaced, flow-removed, group-added, group-replaced, group-removed}
+use Rattle.execute.proofs.Carried.{flow-added, flow-replaced, flow-removed}
 use borrow.Author.Needs.{needs}
 use Rattle.execute.proofs.command.Statement.{statement}
 use Rattle.execute.proofs.command.Tie as tie
@@ -42,35 +42,20 @@ of-flows-requires-3 c κs = search needs
 enum-known-c-4 : tie.Need-enum-known-c-4
 enum-known-c-4 c = search needs
 
-group-entry-requires : tie.Need-group-entry-requires
-group-entry-requires c κs = search needs
-
 group-add-requires : tie.Need-group-add-requires
 group-add-requires c κs = search needs
-
-of-groups-requires : tie.Need-of-groups-requires
-of-groups-requires c κs = search needs
 
 enum-known-c-5 : tie.Need-enum-known-c-5
 enum-known-c-5 c = search needs
 
-group-entry-requires-2 : tie.Need-group-entry-requires-2
-group-entry-requires-2 c κs = search needs
-
 group-mod-requires : tie.Need-group-mod-requires
 group-mod-requires c κs = search needs
-
-of-groups-requires-2 : tie.Need-of-groups-requires-2
-of-groups-requires-2 c κs = search needs
 
 enum-known-c-6 : tie.Need-enum-known-c-6
 enum-known-c-6 c = search needs
 
 group-del-requires : tie.Need-group-del-requires
 group-del-requires c κs = search needs
-
-of-groups-requires-3 : tie.Need-of-groups-requires-3
-of-groups-requires-3 c κs = search needs
 
 returns : tie.Need-returns
 returns c =
@@ -88,19 +73,13 @@ returns-3 c =
     (flow-removed _ _ _ _ _ _ _ (c .before .flow-del .ensures))
 
 returns-4 : tie.Need-returns-4
-returns-4 c =
-    rw (c .before .before .before .before .before .before .c4 .given .1, c .of-groups .ensures)
-    (group-added _ _ _ _ _ _ _ _ _ (c .before .before .group-entry .ensures) (c .before .group-add .ensures))
+returns-4 c = rw (c .before .before .before .before .c4 .given .1) (c .group-add .ensures .commands _)
 
 returns-5 : tie.Need-returns-5
-returns-5 c =
-    rw (c .before .before .before .before .before .before .c5 .given .1, c .of-groups2 .ensures)
-    (group-replaced _ _ _ _ _ _ _ _ _ (c .before .before .group-entry2 .ensures) (c .before .group-mod .ensures))
+returns-5 c = rw (c .before .before .before .before .c5 .given .1) (c .group-mod .ensures .commands _)
 
 returns-6 : tie.Need-returns-6
-returns-6 c =
-    rw (c .before .before .before .before .before .c6 .given .1, c .of-groups3 .ensures)
-    (group-removed _ _ _ _ _ _ _ _ (c .before .group-del .ensures))
+returns-6 c = rw (c .before .before .before .before .c6 .given .1) (c .group-del .ensures _ .commands _)
 
 pub command-spec : {M : Type 1} → statement M
 command-spec =
@@ -118,16 +97,11 @@ command-spec =
     flow-del-requires
     of-flows-requires-3
     enum-known-c-4
-    group-entry-requires
     group-add-requires
-    of-groups-requires
     enum-known-c-5
-    group-entry-requires-2
     group-mod-requires
-    of-groups-requires-2
     enum-known-c-6
     group-del-requires
-    of-groups-requires-3
     returns
     returns-2
     returns-3

@@ -1,6 +1,6 @@
 -- `execute::execute` meets its contract.
 -- Assumes nothing.
-use Rattle.rules.specs.Tables.{carryOut, decodedStatus, decodedEffect}
+use Rattle.rules.specs.Tables.{carryOutIn, decodedStatusIn, decodedEffectIn}
 use Rattle.execute.proofs.Carried.{refused}
 use borrow.Author.Needs.{needs}
 use Rattle.execute.proofs.execute.Statement.{statement}
@@ -16,11 +16,11 @@ enum-known-what-2 : tie.Need-enum-known-what-2
 enum-known-what-2 c = search needs
 
 returns : tie.Need-returns
-unfolding carryOut decodedStatus decodedEffect
+unfolding carryOutIn decodedStatusIn decodedEffectIn
 returns c = rw (c .before .before .before .before .before .what .given .1) (c .command .ensures)
 
 returns-2 : tie.Need-returns-2
-unfolding carryOut decodedStatus decodedEffect
+unfolding carryOutIn decodedStatusIn decodedEffectIn
 returns-2 c = rw (c .before .what2 .given .1) (refused _ _ _)
 
 pub execute-spec : {M : Type 1} → statement M

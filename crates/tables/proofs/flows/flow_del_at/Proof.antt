@@ -6,13 +6,14 @@ use mathlib.Core.Path.{refl}
 use mathlib.Core.List.{[]}
 use Rattle.tables.proofs.Slots.{Shifted, unshifted, shift-up}
 use Rattle.tables.proofs.Search.{held-lt}
+use Rattle.rules.specs.Answers.{code}
 use Rattle.rules.specs.Places.{live}
 use Rattle.rules.specs.Tables.{cookieOf}
 use Rattle.rules.specs.Rows.{entryIn}
 use Rattle.tables.proofs.InPlace.{deleted, absent}
 use native.Mathlib.Omega.{arith}
-use Rattle.tables.proofs.flows.flow_del.Statement.{statement}
-use Rattle.tables.proofs.flows.flow_del.Tie as tie
+use Rattle.tables.proofs.flows.flow_del_at.Statement.{statement}
+use Rattle.tables.proofs.flows.flow_del_at.Tie as tie
 
 abbrev Inv-loop : tie.InvT-loop
 Inv-loop rows₀ count cookie n last i₀ rows i = Shifted 256 i₀ last i₀ i rows₀ rows
@@ -20,15 +21,12 @@ Inv-loop rows₀ count cookie n last i₀ rows i = Shifted 256 i₀ last i₀ i 
 abbrev μ-loop : tie.MeasureT-loop
 μ-loop rows₀ count cookie n last i₀ rows i = last - i
 
-flow-find-requires : tie.Need-flow-find-requires Inv-loop μ-loop
-flow-find-requires c κs = search needs
-
 sub-last : tie.Need-sub-last Inv-loop μ-loop
-sub-last c = omega (arith, held-lt (c .before .flow-find .ensures .1) (c .if1 .taken))
+sub-last c = omega (arith, held-lt (c .before .pre .1) (c .if1 .taken))
 
 loop-holds : tie.Need-loop-holds Inv-loop μ-loop
 loop-holds c =
-    let f = c .before .flow-find .ensures in
+    let f = c .before .pre in
     let h = held-lt (f .1) (c .if1 .taken) in
     unshifted (f .0) (omega arith) (omega arith) (omega (arith, f .1 .inside))
 
@@ -54,24 +52,23 @@ loop-again : tie.Need-loop-again Inv-loop μ-loop
 loop-again c = shift-up [] (c .before .before .loop .inv) (c .before .loop-test .taken)
 
 returns : tie.Need-returns Inv-loop μ-loop
-unfolding entryIn
+unfolding entryIn code
 returns c =
     let l = c .before in
-    let f = l .before .before in
-    let a = f .before .before .args in
-    deleted (live entryIn) entryIn cookieOf 256 _ (a .count) (a .rows .now) refl (f .flow-find .ensures .1) refl (l .before .if1 .taken) refl (l .loop .inv) (c .loop-test .left)
+    let s = l .before .before in
+    let a = s .args in
+    (deleted (live entryIn) entryIn cookieOf 256 _ (a .count) (a .rows .now) refl (s .pre .1) refl (l .before .if1 .taken) refl (l .loop .inv) (c .loop-test .left), refl)
 
 returns-2 : tie.Need-returns-2 Inv-loop μ-loop
-unfolding entryIn
-returns-2 c = absent (live entryIn) entryIn cookieOf 256 _ _ _ refl (c .before .flow-find .ensures .1) (c .if1 .left)
+unfolding entryIn code
+returns-2 c = (absent (live entryIn) entryIn cookieOf 256 _ _ _ refl (c .before .pre .1) (c .if1 .left), refl)
 
-pub flow-del-spec : {M : Type 1} → statement M
-flow-del-spec =
+pub flow-del-at-spec : {M : Type 1} → statement M
+flow-del-at-spec =
     tie.close
     (tie.spec
     Inv-loop
     μ-loop
-    flow-find-requires
     sub-last
     loop-holds
     add-j

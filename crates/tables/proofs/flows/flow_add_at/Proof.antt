@@ -5,13 +5,14 @@ use borrow.Author.Needs.{needs}
 use mathlib.Core.List.{[]}
 use Rattle.tables.proofs.Slots.{Shifted, unshifted, shift-down}
 use mathlib.Core.Path.{refl}
+use Rattle.rules.specs.Answers.{code}
 use Rattle.rules.specs.Places.{live}
 use Rattle.rules.specs.Tables.{cookieOf}
 use Rattle.rules.specs.Rows.{entryIn}
 use Rattle.tables.proofs.InPlace.{added, twice, full}
 use native.Mathlib.Omega.{arith}
-use Rattle.tables.proofs.flows.flow_add.Statement.{statement}
-use Rattle.tables.proofs.flows.flow_add.Tie as tie
+use Rattle.tables.proofs.flows.flow_add_at.Statement.{statement}
+use Rattle.tables.proofs.flows.flow_add_at.Tie as tie
 
 abbrev Inv-loop : tie.InvT-loop
 Inv-loop rows₀ count e at n i₀ rows i = Shifted 256 at n n i rows₀ rows
@@ -19,20 +20,17 @@ Inv-loop rows₀ count e at n i₀ rows i = Shifted 256 at n n i rows₀ rows
 abbrev μ-loop : tie.MeasureT-loop
 μ-loop rows₀ count e at n i₀ rows i = i
 
-flow-find-requires : tie.Need-flow-find-requires Inv-loop μ-loop
-flow-find-requires c κs = search needs
-
 returns : tie.Need-returns Inv-loop μ-loop
-unfolding entryIn
-returns c = twice (live entryIn) entryIn cookieOf 256 _ _ _ refl (c .before .flow-find .ensures .1) (c .if1 .taken)
+unfolding entryIn code
+returns c = (twice (live entryIn) entryIn cookieOf 256 _ _ _ refl (c .before .pre .1) (c .if1 .taken), refl)
 
 returns-2 : tie.Need-returns-2 Inv-loop μ-loop
-unfolding entryIn
-returns-2 c = full (live entryIn) entryIn cookieOf 256 _ _ _ refl (c .before .before .flow-find .ensures .1) (c .before .if1 .left) (c .if2 .taken)
+unfolding entryIn code
+returns-2 c = (full (live entryIn) entryIn cookieOf 256 _ _ _ refl (c .before .before .pre .1) (c .before .if1 .left) (c .if2 .taken), refl)
 
 loop-holds : tie.Need-loop-holds Inv-loop μ-loop
 loop-holds c =
-    let f = c .before .before .flow-find .ensures in
+    let f = c .before .before .pre in
     unshifted (f .0) (f .1 .within) (omega arith) (omega arith)
 
 sub-j : tie.Need-sub-j Inv-loop μ-loop
@@ -59,30 +57,29 @@ loop-again c = shift-down [] (c .before .before .loop .inv) (c .before .loop-tes
 row-of-requires : tie.Need-row-of-requires Inv-loop μ-loop
 row-of-requires c κs = search needs
 
-mul-t22 : tie.Need-mul-t22 Inv-loop μ-loop
-mul-t22 c = search needs
+mul-t21 : tie.Need-mul-t21 Inv-loop μ-loop
+mul-t21 c = search needs
 
 element-set-from-rows : tie.Need-element-set-from-rows Inv-loop μ-loop
 element-set-from-rows c = search needs
 
-add-t22 : tie.Need-add-t22 Inv-loop μ-loop
-add-t22 c = search needs
+add-t21 : tie.Need-add-t21 Inv-loop μ-loop
+add-t21 c = search needs
 
 returns-3 : tie.Need-returns-3 Inv-loop μ-loop
-unfolding entryIn
+unfolding entryIn code
 returns-3 c =
     let l = c .before .before in
-    let f = l .before .before .before in
-    let a = f .before .before .args in
-    added (live entryIn) entryIn cookieOf 256 _ (a .count) (a .rows .now) refl _ (c .row-of .ensures) (f .flow-find .ensures .1) refl (l .before .before .if1 .left) (omega arith) (l .loop .inv) (c .before .loop-test .left)
+    let s = l .before .before .before in
+    let a = s .args in
+    (added (live entryIn) entryIn cookieOf 256 _ (a .count) (a .rows .now) refl _ (c .row-of .ensures) (s .pre .1) refl (l .before .before .if1 .left) (omega arith) (l .loop .inv) (c .before .loop-test .left), refl)
 
-pub flow-add-spec : {M : Type 1} → statement M
-flow-add-spec =
+pub flow-add-at-spec : {M : Type 1} → statement M
+flow-add-at-spec =
     tie.close
     (tie.spec
     Inv-loop
     μ-loop
-    flow-find-requires
     returns
     returns-2
     loop-holds
@@ -94,7 +91,7 @@ flow-add-spec =
     loop-less
     loop-again
     row-of-requires
-    mul-t22
+    mul-t21
     element-set-from-rows
-    add-t22
+    add-t21
     returns-3)
