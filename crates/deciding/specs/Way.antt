@@ -1,17 +1,20 @@
--- What the scan of a table's flows finds, and a frame's way on numbers.
-use Prim.Native.Nat.{ℕ, _<_, _≤_}
-use mathlib.Core.Bool.{Bool, true, false}
+-- What the search of a table's flows finds, and a frame's way on numbers.
+use Prim.Native.Nat.{ℕ, _<_}
+use mathlib.Core.Bool.{Bool, false}
 use mathlib.Core.Option.{Option, none, some}
 use mathlib.Core.Path.{_≡_}
 use mathlib.Core.List.{List, []}
 use lib.Dec.{eqb}
-use lib.ListN.{length, drop, getD}
+use lib.ListN.{take, drop, getD}
 use Rattle.rules.specs.Choose.{choose}
 use Rattle.rules.specs.Address.{agree, addressBits, addressIn}
-use Rattle.rules.specs.Frame.{Headers as Frame·Headers, Exit, better, best, beats, matches0, matches10, matches20, matches30, matches50}
+use Rattle.rules.specs.Frame.{Headers as Frame·Headers, Decider, Exit, matches0, matches10, matches20, matches30, matches50}
 use Rattle.rules.specs.Rows.{entryIn}
 use Rattle.rules.specs.Tables.{liveFlows}
+use Rattle.rules.specs.Engine.{firstMatch, decidesFirst}
+use Rattle.rules.specs.Switch.{orderIn}
 use Rattle.rules.specs.declared.FlowEntry.{FlowEntry}
+use Rattle.rules.specs.declared.Firsts.{Firsts}
 use Rattle.deciding.specs.declared.Headers.{Headers}
 use Rattle.deciding.specs.declared.WayOut.{WayOut}
 
@@ -42,11 +45,7 @@ matchesIn table port h e =
     (choose (eqb table 0) (matches0 port e)
     false))))
 
--- ---- The scan
-
--- whether a match e replaces what was found so far
-unfoldable pub isTaken : Bool → FlowEntry → FlowEntry → Bool
-isTaken found e b = choose found (beats e b) true
+-- ---- The search
 
 -- the flow that a place holds
 abbrev pub flowAt : List (List ℕ) → ℕ → FlowEntry
@@ -56,33 +55,20 @@ flowAt rows at = entryIn (getD rows at [])
 abbrev pub hitIn : List (List ℕ) → Bool → ℕ → Option FlowEntry
 hitIn rows found at = choose found (some (flowAt rows at)) none
 
--- the better of the flow in place i and what was found so far, by any test
-pub record Betters (rows : List (List ℕ)) (matches : FlowEntry → Bool) (i : ℕ) (found : Bool) (at : ℕ) (found′ : Bool) (at′ : ℕ) : Type 0 where
-  pub inside : at′ < 256
-  pub is : hitIn rows found′ at′ ≡ better matches beats (flowAt rows i) (hitIn rows found at)
+-- of the live flows the first match, by any test, in the slots of an order from one up to another
+abbrev pub firstBetween : ℕ → List (List ℕ) → List ℕ → ℕ → ℕ → (FlowEntry → Bool) → Option FlowEntry
+firstBetween count rows order from to matches = firstMatch (liveFlows count rows) matches (drop from (take to (take count order)))
 
--- The scan has come down to i, and has found what stands in a place, or nothing
-pub record Scanned (count : ℕ) (rows : List (List ℕ)) (matches : FlowEntry → Bool) (i : ℕ) (found : Bool) (at : ℕ) : Type 0 where
-  pub within : i ≤ length (liveFlows count rows)
-  pub few : i ≤ 256
+-- a flow that decides, or none, by its place
+pub record Decides (rows : List (List ℕ)) (decided : Option FlowEntry) (found : Bool) (at : ℕ) : Type 0 where
   pub inside : at < 256
-  pub is : hitIn rows found at ≡ best matches beats (drop i (liveFlows count rows))
-
--- from one place down to another nothing more is found
-pub record Skips (rows : List (List ℕ)) (matches : FlowEntry → Bool) (from to : ℕ) : Type 0 where
-  pub down : to ≤ from
-  pub is : (count : ℕ) (found : Bool) (at : ℕ) → Scanned count rows matches from found at → Scanned count rows matches to found at
-
--- what decides among the live flows of a table
-pub record Decides (count : ℕ) (rows : List (List ℕ)) (matches : FlowEntry → Bool) (found : Bool) (at : ℕ) : Type 0 where
-  pub inside : at < 256
-  pub is : hitIn rows found at ≡ best matches beats (liveFlows count rows)
-
--- the flows from place i on have none of table 20, unless one was seen
-pub record Lacks (count : ℕ) (rows : List (List ℕ)) (i : ℕ) (seen : Bool) : Type 0 where
-  pub is : seen ≡ false → (port : ℕ) (h : Frame·Headers) → best (matchesIn 20 port h) beats (drop i (liveFlows count rows)) ≡ none
+  pub is : hitIn rows found at ≡ decided
 
 -- ---- The way
+
+-- what decides in each table, by the live flows and their order
+abbrev pub decider : ℕ → List (List ℕ) → List ℕ → Firsts → Decider
+decider count rows order firsts = decidesFirst (liveFlows count rows) (orderIn count firsts order)
 
 -- a way as the rules give it
 unfoldable pub exitIn : WayOut → Option Exit

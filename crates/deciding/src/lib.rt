@@ -1,14 +1,15 @@
-// The flow that decides in each table, and a frame's way through the tables, over lent rows.
+// The flow that decides in each table, by the order in which flows decide, and a frame's way through the tables, over lent rows.
+use rules::Firsts;
 use rules::FlowEntry;
+use rules::FlowOrder;
 use rules::FlowRows;
-ghost use Prim.Native.Nat.{_<_, _≤_};
+ghost use Prim.Native.Nat.{_<_};
 ghost use mathlib.Core.Path.{_≡_};
 ghost use mathlib.Core.Bool.{false, not, _&&_, _||_};
 ghost use lib.Dec.{eqb};
 ghost use Rattle.rules.specs.Choose.{choose};
-ghost use Rattle.rules.specs.Frame.{beats as Frame·beats, exitOf, fromTable50, fromTable30, fromTable20, wayOf};
-ghost use Rattle.rules.specs.Tables.{liveFlows};
-ghost use Rattle.deciding.specs.Way.{flowAt, hitIn, headersIn, withVlan, agrees, matchesIn, isTaken, Betters, Skips, Lacks, Decides, exitIn};
+ghost use Rattle.rules.specs.Frame.{exitOf, fromTable50, fromTable30, fromTable20, wayOf};
+ghost use Rattle.deciding.specs.Way.{flowAt, hitIn, headersIn, withVlan, agrees, matchesIn, firstBetween, Decides, decider, exitIn};
 ghost use Rattle.rules.specs.Limits.{maxFlows};
 
 // What the tables look at in a frame. `routable`: it is long enough for its EtherType's header, which has the address; that stands in the upper
@@ -29,21 +30,14 @@ pub struct WayOut {
     pub group: u32,
 }
 
-// The place of the best match so far, where there is one. A flow that is carried along a scan costs more than all the rest of it.
-struct Hit {
-    found: bool,
-    at: usize,
-}
-
-// What decides in tables 0 and 10, which are scanned in one go, and whether table 20 has a flow.
-struct Hits {
-    first: Hit,
-    second: Hit,
-    terminates: bool,
+// The place of the flow that decides, where there is one.
+pub struct Hit {
+    pub found: bool,
+    pub at: usize,
 }
 
 // The flow in a place. Each reading of it loads what is used of it, so a test on one field stands before the next reading.
-fn flow(rows: &FlowRows, i: usize) -> FlowEntry
+pub fn flow(rows: &FlowRows, i: usize) -> FlowEntry
     requires { ⌜ i < maxFlows ⌝ }
     ensures { λ r. ⌜ r ≡ flowAt (now (rows .entry)) i ⌝ }
 {
@@ -102,7 +96,7 @@ fn is_routed(rows: &FlowRows, i: usize, h: Headers) -> bool
 
 // Whether the flow in a place is of a table and has what the table compares. What tells most flows apart is read first, and the rest behind
 // its test.
-fn matches(rows: &FlowRows, i: usize, table: u16, port: u32, h: Headers) -> bool
+pub fn matches(rows: &FlowRows, i: usize, table: u16, port: u32, h: Headers) -> bool
     requires { ⌜ i < maxFlows ⌝ }
     ensures { λ r. ⌜ r ≡ matchesIn table port (headersIn h) (flowAt (now (rows .entry)) i) ⌝ }
 {
@@ -126,111 +120,46 @@ fn matches(rows: &FlowRows, i: usize, table: u16, port: u32, h: Headers) -> bool
     (table == 0) & (port & e.in_pport_mask == e.in_pport & e.in_pport_mask)
 }
 
-// A longer prefix, then a higher priority, then a lower cookie.
-fn beats(a: FlowEntry, b: FlowEntry) -> bool
-    ensures { λ r. ⌜ r ≡ Frame·beats a b ⌝ }
+// What decides in a table, whose slots in the order are from one up to another: the first match ends the search. A place that is not live has no
+// flow to match. The loop carries nothing but the slot.
+fn hit_in(
+    rows: &FlowRows,
+    count: usize,
+    order: &FlowOrder,
+    from: usize,
+    to: usize,
+    table: u16,
+    port: u32,
+    h: Headers,
+) -> Hit
+    ensures { λ r. ⌜ Decides (now (rows .entry)) (firstBetween count (now (rows .entry)) (now (order .entry)) from to (matchesIn table port (headersIn h))) (r .found) (r .at) ⌝ }
 {
-    if a.prefix == b.prefix {
-        if a.priority == b.priority {
-            return a.cookie < b.cookie;
+    let all = &rows[..];
+    let slots = &order[..];
+    let n = numbers::min(count, all.len());
+    let end = numbers::min(to, n);
+    let mut i = from;
+    while i < end {
+        let place = slots[i] as usize;
+        i += 1;
+        if place < n {
+            if matches(rows, place, table, port, h) {
+                return Hit {
+                    found: true,
+                    at: place,
+                };
+            }
         }
-        return b.priority < a.priority;
     }
-    b.prefix < a.prefix
-}
-
-// Whether a match replaces what was found so far.
-fn is_taken(found: bool, e: FlowEntry, b: FlowEntry) -> bool
-    ensures { λ r. ⌜ r ≡ isTaken found e b ⌝ }
-{
-    if found { beats(e, b) } else { true }
-}
-
-// The better of the flow in a place and the best so far, in a table.
-fn better(rows: &FlowRows, hit: Hit, i: usize, table: u16, port: u32, h: Headers) -> Hit
-    requires { ⌜ (i < maxFlows) × (hit .at < maxFlows) ⌝ }
-    ensures { λ r. ⌜ Betters (now (rows .entry)) (matchesIn table port (headersIn h)) i (hit .found) (hit .at) (r .found) (r .at) ⌝ }
-{
-    if matches(rows, i, table, port, h) {
-        let e = flow(rows, i);
-        let b = flow(rows, hit.at);
-        if is_taken(hit.found, e, b) {
-            return Hit { found: true, at: i };
-        }
-    }
-    hit
-}
-
-fn none() -> Hit
-    ensures { λ r. ⌜ (r .found ≡ false) × (r .at ≡ 0) ⌝ }
-{
     Hit {
         found: false,
         at: 0,
     }
 }
 
-// What decides in tables 0 and 10, and whether table 20 has a flow. One test passes over the flows of tables 30 and 50, which are most of
-// them.
-fn first_hits(rows: &FlowRows, count: usize, port: u32, h: Headers) -> Hits
-    ensures { λ r. ⌜ Decides count (now (rows .entry)) (matchesIn 0 port (headersIn h)) (r .first .found) (r .first .at) × Decides count (now (rows .entry)) (matchesIn 10 port (headersIn h)) (r .second .found) (r .second .at) × Lacks count (now (rows .entry)) 0 (r .terminates) ⌝ }
-{
-    let all = &rows[..];
-    let mut i = numbers::min(count, all.len());
-    let mut first = none();
-    let mut second = none();
-    let mut terminates = false;
-    while 0 < i {
-        i -= 1;
-        let of = flow(rows, i);
-        if of.table <= 20 {
-            terminates = terminates | (of.table == 20);
-            first = better(rows, first, i, 0, port, h);
-            second = better(rows, second, i, 10, port, h);
-        }
-    }
-    Hits {
-        first,
-        second,
-        terminates,
-    }
-}
-
-// Past the flows that do not match in a table, to behind the next one that does. This loop carries nothing but the place.
-fn skip(rows: &FlowRows, from: usize, table: u16, port: u32, h: Headers) -> usize
-    requires { ⌜ from ≤ maxFlows ⌝ }
-    ensures { λ r. ⌜ Skips (now (rows .entry)) (matchesIn table port (headersIn h)) from r ⌝ }
-{
-    let mut i = from;
-    while 0 < i {
-        if matches(rows, i - 1, table, port, h) {
-            break;
-        }
-        i -= 1;
-    }
-    i
-}
-
-// What decides in a table.
-fn hit_in(rows: &FlowRows, count: usize, table: u16, port: u32, h: Headers) -> Hit
-    ensures { λ r. ⌜ Decides count (now (rows .entry)) (matchesIn table port (headersIn h)) (r .found) (r .at) ⌝ }
-{
-    let all = &rows[..];
-    let mut i = numbers::min(count, all.len());
-    let mut hit = none();
-    loop {
-        i = skip(rows, i, table, port, h);
-        if i == 0 {
-            return hit;
-        }
-        i -= 1;
-        hit = better(rows, hit, i, table, port, h);
-    }
-}
-
 // ---- The way
 
-fn dropped() -> WayOut
+pub fn dropped() -> WayOut
     ensures { λ r. ⌜ r .found ≡ false ⌝ }
 {
     WayOut {
@@ -241,7 +170,7 @@ fn dropped() -> WayOut
 }
 
 // The way out of tables 30 and 50, by what decides there: a miss drops, and so does GOTO_TBL 0; table 60 is empty.
-fn way_out(rows: &FlowRows, hit: Hit, vlan: u16) -> WayOut
+pub fn way_out(rows: &FlowRows, hit: Hit, vlan: u16) -> WayOut
     requires { ⌜ hit .at < maxFlows ⌝ }
     ensures { λ r. ⌜ exitIn r ≡ exitOf vlan (hitIn (now (rows .entry)) (hit .found) (hit .at)) ⌝ }
 {
@@ -256,48 +185,83 @@ fn way_out(rows: &FlowRows, hit: Hit, vlan: u16) -> WayOut
     }
 }
 
-// The way of a frame that is bridged.
-fn bridge(rows: &FlowRows, count: usize, port: u32, h: Headers) -> WayOut
-    ensures { λ r. ⌜ exitIn r ≡ fromTable50 (liveFlows count (now (rows .entry))) (h .mac) (h .vlan) ⌝ }
+// The way of a frame that is bridged: the flows of table 50 are the last.
+fn bridge(
+    rows: &FlowRows,
+    count: usize,
+    order: &FlowOrder,
+    firsts: Firsts,
+    port: u32,
+    h: Headers,
+) -> WayOut
+    ensures { λ r. ⌜ exitIn r ≡ fromTable50 (decider count (now (rows .entry)) (now (order .entry)) firsts) (h .mac) (h .vlan) ⌝ }
 {
-    let hit = hit_in(rows, count, 50, port, h);
+    let hit = hit_in(rows, count, order, firsts.bridging, count, 50, port, h);
     way_out(rows, hit, h.vlan)
 }
 
 // The way of a frame that is routed.
-fn route(rows: &FlowRows, count: usize, port: u32, h: Headers) -> WayOut
-    ensures { λ r. ⌜ exitIn r ≡ fromTable30 (liveFlows count (now (rows .entry))) (headersIn h) (h .vlan) ⌝ }
+fn route(
+    rows: &FlowRows,
+    count: usize,
+    order: &FlowOrder,
+    firsts: Firsts,
+    port: u32,
+    h: Headers,
+) -> WayOut
+    ensures { λ r. ⌜ exitIn r ≡ fromTable30 (decider count (now (rows .entry)) (now (order .entry)) firsts) (headersIn h) (h .vlan) ⌝ }
 {
     if h.routable {
-        let hit = hit_in(rows, count, 30, port, h);
+        let hit = hit_in(
+            rows,
+            count,
+            order,
+            firsts.routing,
+            firsts.bridging,
+            30,
+            port,
+            h,
+        );
         return way_out(rows, hit, h.vlan);
     }
     dropped()
 }
 
-// The way from table 20 on. Where that has no flow, nothing is looked for in it.
-fn from_20(rows: &FlowRows, count: usize, port: u32, h: Headers, terminates: bool) -> WayOut
-    requires { ⌜ Lacks count (now rows) 0 terminates ⌝ }
-    ensures { λ r. ⌜ exitIn r ≡ fromTable20 (liveFlows count (now (rows .entry))) port (headersIn h) (h .vlan) ⌝ }
+// The way from table 20 on.
+fn from_20(
+    rows: &FlowRows,
+    count: usize,
+    order: &FlowOrder,
+    firsts: Firsts,
+    port: u32,
+    h: Headers,
+) -> WayOut
+    ensures { λ r. ⌜ exitIn r ≡ fromTable20 (decider count (now (rows .entry)) (now (order .entry)) firsts) port (headersIn h) (h .vlan) ⌝ }
 {
-    if terminates {
-        let hit = hit_in(rows, count, 20, port, h);
-        if hit.found {
-            return route(rows, count, port, h);
-        }
-        return bridge(rows, count, port, h);
+    let hit = hit_in(
+        rows,
+        count,
+        order,
+        firsts.termination,
+        firsts.routing,
+        20,
+        port,
+        h,
+    );
+    if hit.found {
+        return route(rows, count, order, firsts, port, h);
     }
-    bridge(rows, count, port, h)
+    bridge(rows, count, order, firsts, port, h)
 }
 
 // A frame without a VLAN takes the flow's.
-fn vlan_after(vlan: u16, new_vlan_id: u16) -> u16
+pub fn vlan_after(vlan: u16, new_vlan_id: u16) -> u16
     ensures { λ r. ⌜ r ≡ choose (eqb vlan 0) «new_vlan_id» vlan ⌝ }
 {
     if vlan == 0 { new_vlan_id } else { vlan }
 }
 
-fn with_vlan(h: Headers, vlan: u16) -> Headers
+pub fn with_vlan(h: Headers, vlan: u16) -> Headers
     ensures { λ r. ⌜ (headersIn r ≡ withVlan vlan (headersIn h)) × (r .vlan ≡ vlan) ⌝ }
 {
     Headers {
@@ -311,20 +275,35 @@ fn with_vlan(h: Headers, vlan: u16) -> Headers
 }
 
 // The way through the tables. GOTO_TBL 0 drops, and so does a miss in table 10.
-pub fn way(rows: &FlowRows, count: usize, port: u32, h: Headers) -> WayOut
-    ensures { λ r. ⌜ exitIn r ≡ wayOf (liveFlows count (now (rows .entry))) port (headersIn h) ⌝ }
+pub fn way(
+    rows: &FlowRows,
+    count: usize,
+    order: &FlowOrder,
+    firsts: Firsts,
+    port: u32,
+    h: Headers,
+) -> WayOut
+    ensures { λ r. ⌜ exitIn r ≡ wayOf (decider count (now (rows .entry)) (now (order .entry)) firsts) port (headersIn h) ⌝ }
 {
-    let found = first_hits(rows, count, port, h);
-    let first = found.first;
-    let second = found.second;
+    let first = hit_in(rows, count, order, 0, firsts.vlan, 0, port, h);
     let a = flow(rows, first.at);
     if first.found & (a.goto_tbl == 0) {
         return dropped();
     }
+    let second = hit_in(
+        rows,
+        count,
+        order,
+        firsts.vlan,
+        firsts.termination,
+        10,
+        port,
+        h,
+    );
     let b = flow(rows, second.at);
     if !second.found | (b.goto_tbl == 0) {
         return dropped();
     }
     let tagged = with_vlan(h, vlan_after(h.vlan, b.new_vlan_id));
-    from_20(rows, count, port, tagged, found.terminates)
+    from_20(rows, count, order, firsts, port, tagged)
 }

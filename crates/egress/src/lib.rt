@@ -1,6 +1,8 @@
 // The frame call. It has no `requires`: whatever the registers and tables hold, it gives exactly what the rules say.
 use rules::Answer;
 use rules::Counts;
+use rules::Firsts;
+use rules::FlowOrder;
 use rules::FlowRows;
 use rules::GroupHeads;
 use rules::GroupMembers;
@@ -9,7 +11,9 @@ use rules::Registers;
 ghost use Prim.Native.Nat.{_≤_};
 ghost use mathlib.Core.Path.{_≡_};
 ghost use lib.ListN.{length};
-ghost use Rattle.rules.specs.Tables.{liveFlows, liveGroups, arrays, tablesOf};
+ghost use Rattle.rules.specs.Tables.{liveFlows, liveGroups};
+ghost use Rattle.rules.specs.Engine.{decidesFirst};
+ghost use Rattle.rules.specs.Switch.{orderIn};
 ghost use Rattle.rules.specs.Frame.{way, keep, exitOutputs};
 ghost use Rattle.outputs.specs.Outputs.{Lists};
 ghost use Rattle.egress.specs.Outcome.{Outcome};
@@ -25,7 +29,9 @@ pub struct Framed {
 fn outputs_from(
     d: Registers,
     counts: Counts,
+    firsts: Firsts,
     flows: &FlowRows,
+    order: &FlowOrder,
     heads: &GroupHeads,
     members: &GroupMembers,
     port: u32,
@@ -33,9 +39,16 @@ fn outputs_from(
     list: &mut [u16],
 ) -> usize
     requires { ⌜ listNumbers ≤ length (now list) ⌝ }
-    ensures { λ r. ⌜ Lists (keep d port (exitOutputs (liveGroups (counts .groups) (now (heads .entry)) (now (members .entry))) (way (liveFlows (counts .flows) (now (flows .entry))) port (now (f .entry))))) r (now (list .entry)) (now (list .exit)) ⌝ }
+    ensures { λ r. ⌜ Lists (keep d port (exitOutputs (liveGroups (counts .groups) (now (heads .entry)) (now (members .entry))) (way (decidesFirst (liveFlows (counts .flows) (now (flows .entry))) (orderIn (counts .flows) firsts (now (order .entry)))) port (now (f .entry))))) r (now (list .entry)) (now (list .exit)) ⌝ }
 {
-    let w = deciding::way(flows, counts.flows, port, headers::headers_of(f));
+    let w = deciding::way(
+        flows,
+        counts.flows,
+        order,
+        firsts,
+        port,
+        headers::headers_of(f),
+    );
     if w.found {
         return outputs::group_outputs(
             d,
@@ -61,14 +74,16 @@ fn answered(answer: Answer, outputs: usize) -> Framed
 pub fn frame(
     d: Registers,
     counts: Counts,
+    firsts: Firsts,
     flows: &FlowRows,
+    order: &FlowOrder,
     heads: &GroupHeads,
     members: &GroupMembers,
     port: u64,
     f: &[u8],
     list: &mut [u16],
 ) -> Framed
-    ensures { λ r. ⌜ Outcome d (tablesOf counts (arrays (now (flows .entry)) (now (heads .entry)) (now (members .entry)))) port (now (f .entry)) (now (list .entry)) r (now (list .exit)) ⌝ }
+    ensures { λ r. ⌜ Outcome d (decidesFirst (liveFlows (counts .flows) (now (flows .entry))) (orderIn (counts .flows) firsts (now (order .entry)))) (liveGroups (counts .groups) (now (heads .entry)) (now (members .entry))) port (now (f .entry)) (now (list .entry)) r (now (list .exit)) ⌝ }
 {
     if !ports::port_allowed(d, port) {
         return answered(Answer::PortNotAllowed, 0);
@@ -82,6 +97,17 @@ pub fn frame(
     if !ports::is_up(d, port) {
         return answered(Answer::Done, 0);
     }
-    let n = outputs_from(d, counts, flows, heads, members, port as u32, f, list);
+    let n = outputs_from(
+        d,
+        counts,
+        firsts,
+        flows,
+        order,
+        heads,
+        members,
+        port as u32,
+        f,
+        list,
+    );
     answered(Answer::Done, n)
 }

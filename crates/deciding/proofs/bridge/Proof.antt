@@ -1,6 +1,6 @@
 use mathlib.Core.Path.{_∙_}
-use Rattle.deciding.specs.Way.{headersIn}
-use Rattle.deciding.proofs.Tables.{bridged-out}
+use Rattle.deciding.specs.Way.{headersIn, decider}
+use Rattle.deciding.proofs.Tables.{in-50, bridged-out}
 use borrow.Author.Needs.{needs}
 use Rattle.deciding.proofs.bridge.Statement.{statement}
 use Rattle.deciding.proofs.bridge.Tie as tie
@@ -14,8 +14,10 @@ way-out-requires c κs = c .hit-in .ensures .inside
 returns : tie.Need-returns
 unfolding headersIn
 returns c =
-    let a = c .before .before .args in
-    c .way-out .ensures ∙ bridged-out (a .count) (a .rows .now) (a .port) (headersIn (a .h)) (c .before .hit-in .ensures)
+    let k = c .before in
+    let a = k .before .args in
+    let d = decider (a .count) (a .rows .now) (a .order .now) (a .firsts) in
+    c .way-out .ensures ∙ bridged-out d (a .port) (headersIn (a .h)) (in-50 (a .count) (a .rows .now) (a .order .now) (a .firsts) _ (k .hit-in .ensures))
 
 pub bridge-spec : {M : Type 1} → statement M
 bridge-spec = tie.close (tie.spec hit-in-requires way-out-requires returns)

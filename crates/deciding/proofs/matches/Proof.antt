@@ -11,7 +11,7 @@ use Rattle.rules.specs.declared.FlowEntry.{FlowEntry}
 use Rattle.rules.proofs.Cases.{by-eq}
 use Rattle.deciding.specs.Way.{headersIn, agrees, matchesIn}
 use Rattle.deciding.specs.declared.Headers.{Headers}
-use Rattle.deciding.proofs.Scan.{other-table}
+use Rattle.deciding.proofs.Search.{other-table}
 use borrow.Author.Needs.{needs}
 use Rattle.deciding.proofs.matches.Statement.{statement}
 use Rattle.deciding.proofs.matches.Tie as tie

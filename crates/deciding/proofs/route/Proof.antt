@@ -1,6 +1,6 @@
 use mathlib.Core.Path.{_∙_}
-use Rattle.deciding.specs.Way.{headersIn}
-use Rattle.deciding.proofs.Tables.{too-short, routed-out, nowhere}
+use Rattle.deciding.specs.Way.{headersIn, decider}
+use Rattle.deciding.proofs.Tables.{in-30, routed-out, too-short, nowhere}
 use borrow.Author.Needs.{needs}
 use Rattle.deciding.proofs.route.Statement.{statement}
 use Rattle.deciding.proofs.route.Tie as tie
@@ -15,8 +15,11 @@ returns : tie.Need-returns
 unfolding headersIn
 returns c =
     let k = c .before in
-    let a = k .before .before .args in
-    c .way-out .ensures ∙ routed-out (a .count) (a .rows .now) (a .port) (headersIn (a .h)) (k .before .if1 .taken) (k .hit-in .ensures)
+    let t = k .before in
+    let a = t .before .args in
+    let d = decider (a .count) (a .rows .now) (a .order .now) (a .firsts) in
+    let hit = in-30 (a .count) (a .rows .now) (a .order .now) (a .firsts) _ (k .hit-in .ensures) in
+    c .way-out .ensures ∙ routed-out d (a .port) (headersIn (a .h)) (t .if1 .taken) hit
 
 dropped-requires : tie.Need-dropped-requires
 dropped-requires c κs = search needs
@@ -26,7 +29,8 @@ unfolding headersIn
 returns-2 c =
     let t = c .before in
     let a = t .before .args in
-    nowhere _ (c .dropped .ensures) ∙ too-short (a .count) (a .rows .now) (a .port) (headersIn (a .h)) (t .if1 .left)
+    let d = decider (a .count) (a .rows .now) (a .order .now) (a .firsts) in
+    nowhere _ (c .dropped .ensures) ∙ too-short d (headersIn (a .h)) (t .if1 .left)
 
 pub route-spec : {M : Type 1} → statement M
 route-spec = tie.close (tie.spec hit-in-requires way-out-requires returns dropped-requires returns-2)

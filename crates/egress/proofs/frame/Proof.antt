@@ -1,7 +1,6 @@
 -- The answers in their order: each return has the tests before it as facts, and the rules' refusal comes out with the same number.
 -- Assumes nothing.
 use mathlib.Core.Path.{sym, _∙_}
-use Rattle.rules.specs.Tables.{tablesOf}
 use borrow.Author.Tests.{not-true, not-false}
 use Rattle.ports.proofs.Bitmaps.{port-small}
 use Rattle.egress.proofs.Outcomes.{port-refused, frame-refused, list-refused, port-down, port-up}
@@ -19,7 +18,7 @@ answered-requires c κs = search needs
 returns : tie.Need-returns
 returns c =
     let p = c .before .before in
-    rw (c .answered .ensures) (port-refused _ _ _ _ _ (sym (p .port-allowed .ensures) ∙ not-true (p .port-allowed .result) (c .before .if1 .taken)))
+    rw (c .answered .ensures) (port-refused _ _ _ _ _ _ (sym (p .port-allowed .ensures) ∙ not-true (p .port-allowed .result) (c .before .if1 .taken)))
 
 is-frame-requires : tie.Need-is-frame-requires
 is-frame-requires c κs = search needs
@@ -33,7 +32,7 @@ returns-2 c =
     let p = f .before .before in
     let allowed = sym (p .port-allowed .ensures) ∙ not-false (p .port-allowed .result) (f .before .if1 .left) in
     rw (c .answered2 .ensures)
-    (frame-refused _ _ _ _ _ allowed (sym (f .is-frame .ensures) ∙ not-true (f .is-frame .result) (c .before .if2 .taken)))
+    (frame-refused _ _ _ _ _ _ allowed (sym (f .is-frame .ensures) ∙ not-true (f .is-frame .result) (c .before .if2 .taken)))
 
 answered-requires-3 : tie.Need-answered-requires-3
 answered-requires-3 c κs = search needs
@@ -44,7 +43,7 @@ returns-3 c =
     let p = f .before .before in
     let allowed = sym (p .port-allowed .ensures) ∙ not-false (p .port-allowed .result) (f .before .if1 .left) in
     let right = sym (f .is-frame .ensures) ∙ not-false (f .is-frame .result) (c .before .before .if2 .left) in
-    rw (c .answered3 .ensures) (list-refused _ _ _ _ _ allowed right (c .before .if3 .taken))
+    rw (c .answered3 .ensures) (list-refused _ _ _ _ _ _ allowed right (c .before .if3 .taken))
 
 is-up-requires : tie.Need-is-up-requires
 is-up-requires c κs = search needs
@@ -60,7 +59,7 @@ returns-4 c =
     let allowed = sym (p .port-allowed .ensures) ∙ not-false (p .port-allowed .result) (f .before .if1 .left) in
     let right = sym (f .is-frame .ensures) ∙ not-false (f .is-frame .result) (u .before .before .if2 .left) in
     let down = sym (u .is-up .ensures) ∙ not-true (u .is-up .result) (c .before .if4 .taken) in
-    rw (c .answered4 .ensures) (port-down _ _ _ _ _ allowed right (u .before .if3 .left) down)
+    rw (c .answered4 .ensures) (port-down _ _ _ _ _ _ allowed right (u .before .if3 .left) down)
 
 cast-outputs-from : tie.Need-cast-outputs-from
 cast-outputs-from c =
@@ -80,7 +79,6 @@ same-length : tie.Need-same-length
 same-length c = search needs
 
 returns-5 : tie.Need-returns-5
-unfolding tablesOf
 returns-5 c =
     let u = c .before .before .before .before .before .before in
     let f = u .before .before .before in
@@ -88,7 +86,7 @@ returns-5 c =
     let allowed = sym (p .port-allowed .ensures) ∙ not-false (p .port-allowed .result) (f .before .if1 .left) in
     let right = sym (f .is-frame .ensures) ∙ not-false (f .is-frame .result) (u .before .before .if2 .left) in
     let up = sym (u .is-up .ensures) ∙ not-false (u .is-up .result) (c .before .before .before .before .before .if4 .left) in
-    rw (c .answered5 .ensures) (port-up _ _ _ _ _ allowed right (u .before .if3 .left) up (c .before .before .before .outputs-from .ensures))
+    rw (c .answered5 .ensures) (port-up _ _ _ _ _ _ allowed right (u .before .if3 .left) up (c .before .before .before .outputs-from .ensures))
 
 pub frame-spec : {M : Type 1} → statement M
 frame-spec =
