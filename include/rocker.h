@@ -31,11 +31,12 @@
 /* A device. All zero it has no ports: rocker_fresh makes it one that has. A host has no need to look inside. */
 struct rocker {
     /* switch ID, links, enable, TEST_REG64, BASE_ADDR; ports, three latches and TEST_REG, SIZE, HEAD, TAIL, CREDITS of 32 bits; how many
-     * flows and how many groups are live */
-    uint64_t registers[16];
+     * flows and how many groups are live; where the flows of tables 10, 20, 30 and 50 begin in their order */
+    uint64_t registers[20];
     uint32_t flows[ROCKER_FLOWS][22];
     uint32_t heads[ROCKER_GROUPS][8]; /* of groups: ID, POP_VLAN, number of members, VLAN, two MACs of two words each */
     uint16_t members[ROCKER_GROUPS][62];
+    uint8_t order[ROCKER_FLOWS]; /* the places of the live flows in the order in which they decide */
 };
 
 /* What a call gives besides its answer. What a call does not give, and all that a refused one gives, is 0. */
@@ -47,7 +48,7 @@ struct rocker_outcome {
     uint64_t outputs;   /* outputs written to the start of the list, ROCKER_OUTPUT numbers each */
 };
 
-_Static_assert(sizeof(struct rocker) == 42624, "a device has 42,624 bytes");
+_Static_assert(sizeof(struct rocker) == 42912, "a device has 42,912 bytes");
 
 /* Where the numbers of an output begin. A routed frame leaves with these MACs; both are 0 where it is bridged and keeps its own.
  * docs/C-INTERFACE.md, "Outputs", has what an output asks of the host. */
@@ -74,37 +75,37 @@ enum rocker_kind {
 /* The size of a device in the archive. A host compares it once with sizeof(struct rocker), so that header and archive agree. */
 uint64_t rocker_size(void);
 
-uint32_t rocker_fresh_parts(uint64_t registers[16], uint32_t flows[ROCKER_FLOWS][22], uint32_t heads[ROCKER_GROUPS][8],
-                            uint16_t members[ROCKER_GROUPS][62], uint64_t ports, uint64_t switch_id);
+uint32_t rocker_fresh_parts(uint64_t registers[20], uint32_t flows[ROCKER_FLOWS][22], uint32_t heads[ROCKER_GROUPS][8],
+                            uint16_t members[ROCKER_GROUPS][62], uint8_t order[ROCKER_FLOWS], uint64_t ports, uint64_t switch_id);
 
-uint32_t rocker_read_parts(const uint64_t registers[16], uint64_t offset, uint64_t width, uint64_t *value);
+uint32_t rocker_read_parts(const uint64_t registers[20], uint64_t offset, uint64_t width, uint64_t *value);
 
-uint32_t rocker_write_parts(uint64_t registers[16], uint64_t offset, uint64_t width, uint64_t value, uint64_t *raised);
+uint32_t rocker_write_parts(uint64_t registers[20], uint64_t offset, uint64_t width, uint64_t value, uint64_t *raised);
 
-uint32_t rocker_link_parts(uint64_t registers[16], uint64_t port, uint64_t up);
+uint32_t rocker_link_parts(uint64_t registers[20], uint64_t port, uint64_t up);
 
-uint32_t rocker_process_parts(uint64_t registers[16], uint32_t flows[ROCKER_FLOWS][22], uint32_t heads[ROCKER_GROUPS][8],
-                              uint16_t members[ROCKER_GROUPS][62], uint8_t *memory, size_t memory_length, uint8_t *buffer,
-                              size_t buffer_length, uint64_t *raised, uint64_t *completed, uint64_t *bytes);
+uint32_t rocker_process_parts(uint64_t registers[20], uint32_t flows[ROCKER_FLOWS][22], uint32_t heads[ROCKER_GROUPS][8],
+                              uint16_t members[ROCKER_GROUPS][62], uint8_t order[ROCKER_FLOWS], uint8_t *memory, size_t memory_length,
+                              uint8_t *buffer, size_t buffer_length, uint64_t *raised, uint64_t *completed, uint64_t *bytes);
 
-uint32_t rocker_frame_parts(const uint64_t registers[16], const uint32_t flows[ROCKER_FLOWS][22], const uint32_t heads[ROCKER_GROUPS][8],
-                            const uint16_t members[ROCKER_GROUPS][62], uint64_t port, const uint8_t *frame, size_t frame_length,
-                            uint16_t *list, size_t list_length, uint64_t *outputs);
+uint32_t rocker_frame_parts(const uint64_t registers[20], const uint32_t flows[ROCKER_FLOWS][22], const uint32_t heads[ROCKER_GROUPS][8],
+                            const uint16_t members[ROCKER_GROUPS][62], const uint8_t order[ROCKER_FLOWS], uint64_t port,
+                            const uint8_t *frame, size_t frame_length, uint16_t *list, size_t list_length, uint64_t *outputs);
 
-uint32_t rocker_header_parts(const uint64_t registers[16], uint8_t *buffer, size_t buffer_length, uint64_t *bytes);
+uint32_t rocker_header_parts(const uint64_t registers[20], uint8_t *buffer, size_t buffer_length, uint64_t *bytes);
 
 /* out: value, raised, completed, bytes, outputs */
-uint32_t rocker_call_parts(uint64_t registers[16], uint32_t flows[ROCKER_FLOWS][22], uint32_t heads[ROCKER_GROUPS][8],
-                           uint16_t members[ROCKER_GROUPS][62], uint64_t kind, uint64_t a, uint64_t b, uint64_t c, uint8_t *memory,
-                           size_t memory_length, const uint8_t *frame, size_t frame_length, uint8_t *buffer, size_t buffer_length,
-                           uint16_t *list, size_t list_length, uint64_t out[5]);
+uint32_t rocker_call_parts(uint64_t registers[20], uint32_t flows[ROCKER_FLOWS][22], uint32_t heads[ROCKER_GROUPS][8],
+                           uint16_t members[ROCKER_GROUPS][62], uint8_t order[ROCKER_FLOWS], uint64_t kind, uint64_t a, uint64_t b,
+                           uint64_t c, uint8_t *memory, size_t memory_length, const uint8_t *frame, size_t frame_length, uint8_t *buffer,
+                           size_t buffer_length, uint16_t *list, size_t list_length, uint64_t out[5]);
 
 /* ---- The calls */
 
 /* A new device: 1 to 62 ports, all links down, the tables empty. Another port count gets 7 and leaves what was there. */
 static inline uint32_t rocker_fresh(struct rocker *d, uint64_t ports, uint64_t switch_id)
 {
-    return rocker_fresh_parts(d->registers, d->flows, d->heads, d->members, ports, switch_id);
+    return rocker_fresh_parts(d->registers, d->flows, d->heads, d->members, d->order, ports, switch_id);
 }
 
 /* A register read. The value goes to *value, 0 if it is refused. */
@@ -132,8 +133,8 @@ static inline uint32_t rocker_process(struct rocker *d, uint8_t *memory, size_t 
 {
     o->value = 0;
     o->outputs = 0;
-    return rocker_process_parts(d->registers, d->flows, d->heads, d->members, memory, memory_length, buffer, buffer_length, &o->raised,
-                                &o->completed, &o->bytes);
+    return rocker_process_parts(d->registers, d->flows, d->heads, d->members, d->order, memory, memory_length, buffer, buffer_length,
+                                &o->raised, &o->completed, &o->bytes);
 }
 
 /* A frame in at a port. Its outputs go to the start of the list, which has room for ROCKER_LIST numbers, and how many they are to *outputs,
@@ -141,7 +142,8 @@ static inline uint32_t rocker_process(struct rocker *d, uint8_t *memory, size_t 
 static inline uint32_t rocker_frame(const struct rocker *d, uint64_t port, const uint8_t *frame, size_t frame_length, uint16_t *list,
                                     size_t list_length, uint64_t *outputs)
 {
-    return rocker_frame_parts(d->registers, d->flows, d->heads, d->members, port, frame, frame_length, list, list_length, outputs);
+    return rocker_frame_parts(d->registers, d->flows, d->heads, d->members, d->order, port, frame, frame_length, list, list_length,
+                              outputs);
 }
 
 /* The six bytes of a MAC from its three numbers in an output: rocker_mac(list + ROCKER_OUTPUT * k + ROCKER_SOURCE, mac). */
@@ -169,8 +171,8 @@ static inline uint32_t rocker_call(struct rocker *d, uint64_t kind, uint64_t a, 
                                    size_t buffer_length, uint16_t *list, size_t list_length, struct rocker_outcome *o)
 {
     uint64_t out[5];
-    uint32_t answer = rocker_call_parts(d->registers, d->flows, d->heads, d->members, kind, a, b, c, memory, memory_length, frame,
-                                        frame_length, buffer, buffer_length, list, list_length, out);
+    uint32_t answer = rocker_call_parts(d->registers, d->flows, d->heads, d->members, d->order, kind, a, b, c, memory, memory_length,
+                                        frame, frame_length, buffer, buffer_length, list, list_length, out);
     o->value = out[0];
     o->raised = out[1];
     o->completed = out[2];

@@ -4,6 +4,7 @@
 use hex::Counted;
 use lines::print;
 use rules::Device;
+use rules::FlowOrder;
 use rules::FlowRows;
 use rules::GroupHeads;
 use rules::GroupMembers;
@@ -83,8 +84,9 @@ fn worked(
     flows: &mut FlowRows,
     heads: &mut GroupHeads,
     members: &mut GroupMembers,
+    order: &mut FlowOrder,
 ) -> Device {
-    let r = device::process(d, memory, buffer, flows, heads, members);
+    let r = device::process(d, memory, buffer, flows, heads, members, order);
     let answer = r.answer;
     print::answer(answers::number(answer));
     print::raised(r.interrupt);
@@ -106,12 +108,13 @@ fn work(
     flows: &mut FlowRows,
     heads: &mut GroupHeads,
     members: &mut GroupMembers,
+    order: &mut FlowOrder,
 ) -> Device {
     let Counted::Bytes(size) = room(s, line) else {
         return d;
     };
     let n = numbers::min(size, buffer.len());
-    worked(d, memory, &mut buffer[0..n], flows, heads, members)
+    worked(d, memory, &mut buffer[0..n], flows, heads, members, order)
 }
 
 fn headed(d: Device, buffer: &mut [u8]) -> Device {
@@ -164,8 +167,9 @@ fn forward(
     flows: &FlowRows,
     heads: &GroupHeads,
     members: &GroupMembers,
+    order: &FlowOrder,
 ) {
-    let r = device::frame(d, port, f, list, flows, heads, members);
+    let r = device::frame(d, port, f, list, flows, heads, members, order);
     let answer = r.answer;
     let n = r.outputs;
     print::answer(answers::number(answer));
@@ -185,9 +189,10 @@ fn filled(
     flows: &FlowRows,
     heads: &GroupHeads,
     members: &GroupMembers,
+    order: &FlowOrder,
 ) {
     hex::bytes(digits, f);
-    forward(d, port, f, list, flows, heads, members);
+    forward(d, port, f, list, flows, heads, members, order);
 }
 
 // frame PORT HEX [LISTLEN]. The buffer holds the frame.
@@ -200,6 +205,7 @@ fn frame(
     flows: &FlowRows,
     heads: &GroupHeads,
     members: &GroupMembers,
+    order: &FlowOrder,
 ) {
     let Counted::Bytes(long) = list_length(s, line) else {
         return;
@@ -224,6 +230,7 @@ fn frame(
         flows,
         heads,
         members,
+        order,
     );
 }
 
@@ -257,13 +264,14 @@ pub fn call(
     flows: &mut FlowRows,
     heads: &mut GroupHeads,
     members: &mut GroupMembers,
+    order: &mut FlowOrder,
 ) -> Device {
     let name = text::word(s, 0);
     if check::same(name, b"work") {
-        return work(d, s, line, memory, buffer, flows, heads, members);
+        return work(d, s, line, memory, buffer, flows, heads, members, order);
     }
     if check::same(name, b"frame") {
-        frame(d, s, line, buffer, list, flows, heads, members);
+        frame(d, s, line, buffer, list, flows, heads, members, order);
         return d;
     }
     without_tables(d, s, line, buffer)

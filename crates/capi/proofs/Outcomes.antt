@@ -10,9 +10,8 @@ use borrow.Author.Tests.{eq-eqb, ne-eqb, lt-ltb, le-ltb}
 use Rattle.rules.specs.Answers.{number}
 use Rattle.rules.specs.Choose.{choose}
 use Rattle.rules.specs.Members.{elem}
-use Rattle.rules.specs.Tables.{Arrays}
 use Rattle.rules.specs.Journal.{completion}
-use Rattle.rules.specs.Switch.{Switch, Borrowed, Result, switchOf, unchanged, unlessRefused, readEffect, writeEffect, linked, processEffect, framed, headed, refusal, effect, step, freshRefusal}
+use Rattle.rules.specs.Switch.{Switch, Storage, Borrowed, Result, switchOf, unchanged, unlessRefused, readEffect, writeEffect, linked, processEffect, processEffectBy, framed, headed, refusal, effect, effectBy, step, stepBy, freshRefusal}
 use Rattle.rules.specs.declared.Device.{Device}
 use Rattle.rules.specs.declared.Request.{Request}
 use Rattle.rules.specs.declared.Request.the-variants.{Read, Write, Link, Process, Frame, Header}
@@ -42,7 +41,7 @@ givenBy Header of = five 0 0 0 (of .told .written) 0
 
 module _ (s : Switch) (x : Borrowed) where
   done-gives : (q : Request) → givenBy q (effect s x q) ≡ numbersOf (effect s x q)
-  unfolding effect readEffect writeEffect linked processEffect framed headed numbersOf toldIn bitOf elem
+  unfolding effectBy readEffect writeEffect linked processEffectBy framed headed numbersOf toldIn bitOf elem
   done-gives (Read offset width) = refl
   done-gives (Write offset width value) = refl
   done-gives (Link port up) = refl
@@ -60,12 +59,12 @@ module _ (s : Switch) (x : Borrowed) where
   refused-gives Header n = refl
 
   pub gives : (q : Request) → givenBy q (step s x q) ≡ numbersOf (step s x q)
-  unfolding step unlessRefused
+  unfolding stepBy unlessRefused
   gives q =
       either (λ of. givenBy q of ≡ numbersOf of) (eqb (refusal s x q) 0) (done-gives q) (refused-gives q (refusal s x q))
 
   done-answers : (q : Request) → effect s x q .answer ≡ 0
-  unfolding effect readEffect writeEffect linked processEffect framed headed
+  unfolding effectBy readEffect writeEffect linked processEffectBy framed headed
   done-answers (Read offset width) = refl
   done-answers (Write offset width value) = refl
   done-answers (Link port up) = refl
@@ -75,30 +74,30 @@ module _ (s : Switch) (x : Borrowed) where
 
   -- a refused call completes nothing
   nothing-completed : (q : Request) → (step s x q .answer ≡ 0 → ⊥) → step s x q .told .completed ≡ 0
-  unfolding step unlessRefused unchanged
+  unfolding stepBy unlessRefused unchanged
   nothing-completed q =
       either (λ of. (of .answer ≡ 0 → ⊥) → of .told .completed ≡ 0) (eqb (refusal s x q) 0) (λ n. absurd (n (done-answers q))) (λ n. refl)
 
   -- a read, a frame and a header leave the switch
   stays : (q : Request) → effect s x q .switch ≡ s → step s x q .switch ≡ s
-  unfolding step unlessRefused unchanged
+  unfolding stepBy unlessRefused unchanged
   stays q e = either (λ of. of .switch ≡ s) (eqb (refusal s x q) 0) e refl
 
   pub read-stays : (offset width : ℕ) → step s x (Read offset width) .switch ≡ s
-  unfolding effect readEffect
+  unfolding effectBy readEffect
   read-stays offset width = stays (Read offset width) refl
 
   pub frame-stays : (port : ℕ) → step s x (Frame port) .switch ≡ s
-  unfolding effect framed
+  unfolding effectBy framed
   frame-stays port = stays (Frame port) refl
 
   pub header-stays : step s x Header .switch ≡ s
-  unfolding effect headed
+  unfolding effectBy headed
   header-stays = stays Header refl
 
 -- ---- The end of a call
 
-module _ (w : List ℕ) (d : Device) (a : Arrays) (x : Borrowed) (q : Request) (is : d ≡ deviceIn w) {a′ : Arrays} {r : Called} {memory buffer list : List ℕ}
+module _ (w : List ℕ) (d : Device) (a : Storage) (x : Borrowed) (q : Request) (is : d ≡ deviceIn w) {a′ : Storage} {r : Called} {memory buffer list : List ℕ}
     (o : device.Outcome r d a a′ memory buffer list (step (switchOf d a) x q)) where
   -- no place changes where the call is refused
   places-stay : (step (switchOf d a) x q .answer ≡ 0 → ⊥) → a′ ≡ a
@@ -142,7 +141,7 @@ pub no-kind : (kind b : ℕ) → (kind ≡ 0 → ⊥) → (kind ≡ 1 → ⊥) �
 unfolding askRefusal
 no-kind kind b n0 n1 n2 n3 n4 n5 = rw (lt-ltb 5 kind (omega arith))
 
-module _ (w : List ℕ) (a : Arrays) (x : Borrowed) (kind m b c : ℕ) where
+module _ (w : List ℕ) (a : Storage) (x : Borrowed) (kind m b c : ℕ) where
   pub refused : askRefusal kind b ≡ 2 → Outcome 2 w w a a (five 0 0 0 0 0) (x .memory) (x .buffer) (x .list) (asked (switchOf (deviceIn w) a) x kind m b c)
   unfolding asked unlessRefused unchanged numbersOf toldIn bitOf elem
   refused e =
@@ -156,7 +155,7 @@ linking s x port b c h = rw (le-ltb 1 b h)
 
 -- ---- Fresh
 
-pub fresh-stored : {answer ports id : ℕ} {w w′ : List ℕ} {a a′ : Arrays} (r : Made) → device.Makes r ports id a a′ → Stored answer (r .answer) (r .device) w w′
+pub fresh-stored : {answer ports id : ℕ} {w w′ : List ℕ} {a a′ : Storage} (r : Made) → device.Makes r ports id a a′ → Stored answer (r .answer) (r .device) w w′
     → FreshOutcome answer w w′ a a′ ports id
 fresh-stored {answer} {ports} r h s =
     let e : answer ≡ freshRefusal ports = s .answer-is ∙ h .answer-is in

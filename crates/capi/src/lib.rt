@@ -1,10 +1,12 @@
-// The C interface. A host holds a device as four arrays of numbers: its registers and counts as 16 words (the crate `words`), and the
-// places of its tables. Each exported function takes pointers to those that its call needs; include/rocker.h puts them into one struct.
+// The C interface. A host holds a device as five arrays of numbers: its small part as 20 words (the crate `words`), the places of its
+// tables, and the order of its flows. Each exported function takes pointers to those that its call needs; include/rocker.h puts them into
+// one struct.
 // No enum crosses the boundary: a request comes in as numbers, an answer goes out as its number of document 01. No bool is held either, so
 // the functions are right whatever bytes they are handed.
 
 use rules::Answer;
 use rules::Device;
+use rules::FlowOrder;
 use rules::FlowRows;
 use rules::GroupHeads;
 use rules::GroupMembers;
@@ -12,8 +14,7 @@ ghost use mathlib.Core.Path.{_≡_};
 ghost use mathlib.Core.List.{List};
 ghost use Prim.Native.Nat.{ℕ};
 ghost use Rattle.rules.specs.Answers.{number};
-ghost use Rattle.rules.specs.Tables.{Arrays, arrays};
-ghost use Rattle.rules.specs.Switch.{Borrowed, switchOf, step};
+ghost use Rattle.rules.specs.Switch.{Storage, storage, Borrowed, switchOf, step};
 ghost use Rattle.rules.specs.declared.Request.the-variants.{Read, Write, Process, Frame, Header};
 ghost use Rattle.device.specs.Outcome.{borrowed};
 ghost use Rattle.words.specs.Words.{deviceIn};
@@ -35,7 +36,7 @@ fn bit_of(b: bool) -> u64
 }
 
 // The end of a call: the device goes back into the words if the call was done. A refused call leaves them, bits without meaning too.
-fn store(registers: &mut [u64; 16], answer: Answer, after: Device) -> u32
+fn store(registers: &mut [u64; 20], answer: Answer, after: Device) -> u32
     ensures { λ r. ⌜ Stored r answer after (now (registers .entry)) (now (registers .exit)) ⌝ }
 {
     let n = answer_of(answer);
@@ -47,26 +48,27 @@ fn store(registers: &mut [u64; 16], answer: Answer, after: Device) -> u32
 
 // ---- Exported
 
-// The bytes of the four arrays.
+// The bytes of the five arrays.
 #[no_mangle]
 pub extern "C" fn rocker_size() -> u64
     ensures { λ r. ⌜ r ≡ partsSize ⌝ }
 {
-    42624
+    42912
 }
 
 #[no_mangle]
 pub extern "C" fn rocker_fresh_parts(
-    registers: &mut [u64; 16],
+    registers: &mut [u64; 20],
     flows: &mut FlowRows,
     heads: &mut GroupHeads,
     members: &mut GroupMembers,
+    order: &mut FlowOrder,
     ports: u64,
     switch_id: u64,
 ) -> u32
-    ensures { λ r. ⌜ FreshOutcome r (now (registers .entry)) (now (registers .exit)) (arrays (now (flows .entry)) (now (heads .entry)) (now (members .entry))) (arrays (now (flows .exit)) (now (heads .exit)) (now (members .exit))) ports «switch_id» ⌝ }
+    ensures { λ r. ⌜ FreshOutcome r (now (registers .entry)) (now (registers .exit)) (storage (now (flows .entry)) (now (heads .entry)) (now (members .entry)) (now (order .entry))) (storage (now (flows .exit)) (now (heads .exit)) (now (members .exit)) (now (order .exit))) ports «switch_id» ⌝ }
 {
-    let made = device::fresh(ports, switch_id, flows, heads, members);
+    let made = device::fresh(ports, switch_id, flows, heads, members, order);
     let answer = made.answer;
     let after = made.device;
     store(registers, answer, after)
@@ -74,12 +76,12 @@ pub extern "C" fn rocker_fresh_parts(
 
 #[no_mangle]
 pub extern "C" fn rocker_read_parts(
-    registers: &[u64; 16],
+    registers: &[u64; 20],
     offset: u64,
     width: u64,
     value: &mut u64,
 ) -> u32
-    ensures { λ r. ⌜ ((a : Arrays) (b : Borrowed) → Outcome r (now (registers .entry)) (now (registers .entry)) a a (five (now (value .exit)) 0 0 0 0) (b .memory) (b .buffer) (b .list) (step (switchOf (deviceIn (now (registers .entry))) a) b (Read offset width))) ⌝ }
+    ensures { λ r. ⌜ ((a : Storage) (b : Borrowed) → Outcome r (now (registers .entry)) (now (registers .entry)) a a (five (now (value .exit)) 0 0 0 0) (b .memory) (b .buffer) (b .list) (step (switchOf (deviceIn (now (registers .entry))) a) b (Read offset width))) ⌝ }
 {
     let r = device::read(words::device_of(*registers), offset, width);
     *value = r.value;
@@ -89,13 +91,13 @@ pub extern "C" fn rocker_read_parts(
 
 #[no_mangle]
 pub extern "C" fn rocker_write_parts(
-    registers: &mut [u64; 16],
+    registers: &mut [u64; 20],
     offset: u64,
     width: u64,
     value: u64,
     raised: &mut u64,
 ) -> u32
-    ensures { λ r. ⌜ ((a : Arrays) (b : Borrowed) → Outcome r (now (registers .entry)) (now (registers .exit)) a a (five 0 (now (raised .exit)) 0 0 0) (b .memory) (b .buffer) (b .list) (step (switchOf (deviceIn (now (registers .entry))) a) b (Write offset width value))) ⌝ }
+    ensures { λ r. ⌜ ((a : Storage) (b : Borrowed) → Outcome r (now (registers .entry)) (now (registers .exit)) a a (five 0 (now (raised .exit)) 0 0 0) (b .memory) (b .buffer) (b .list) (step (switchOf (deviceIn (now (registers .entry))) a) b (Write offset width value))) ⌝ }
 {
     let r = device::write(words::device_of(*registers), offset, width, value);
     *raised = bit_of(r.interrupt);
@@ -106,8 +108,8 @@ pub extern "C" fn rocker_write_parts(
 
 // The owner sets a port's link: 0 is down, 1 is up.
 #[no_mangle]
-pub extern "C" fn rocker_link_parts(registers: &mut [u64; 16], port: u64, up: u64) -> u32
-    ensures { λ r. ⌜ ((a : Arrays) (b : Borrowed) → Outcome r (now (registers .entry)) (now (registers .exit)) a a (five 0 0 0 0 0) (b .memory) (b .buffer) (b .list) (asked (switchOf (deviceIn (now (registers .entry))) a) b 2 port up 0)) ⌝ }
+pub extern "C" fn rocker_link_parts(registers: &mut [u64; 20], port: u64, up: u64) -> u32
+    ensures { λ r. ⌜ ((a : Storage) (b : Borrowed) → Outcome r (now (registers .entry)) (now (registers .exit)) a a (five 0 0 0 0 0) (b .memory) (b .buffer) (b .list) (asked (switchOf (deviceIn (now (registers .entry))) a) b 2 port up 0)) ⌝ }
 {
     if 1 < up {
         return 2;
@@ -121,20 +123,21 @@ pub extern "C" fn rocker_link_parts(registers: &mut [u64; 16], port: u64, up: u6
 // Process the slot at TAIL: the journal's record goes to the start of the buffer.
 #[no_mangle]
 pub extern "C" fn rocker_process_parts(
-    registers: &mut [u64; 16],
+    registers: &mut [u64; 20],
     flows: &mut FlowRows,
     heads: &mut GroupHeads,
     members: &mut GroupMembers,
+    order: &mut FlowOrder,
     memory: &mut [u8],
     buffer: &mut [u8],
     raised: &mut u64,
     completed: &mut u64,
     bytes: &mut u64,
 ) -> u32
-    ensures { λ r. ⌜ ((frame list : List ℕ) → Outcome r (now (registers .entry)) (now (registers .exit)) (arrays (now (flows .entry)) (now (heads .entry)) (now (members .entry))) (arrays (now (flows .exit)) (now (heads .exit)) (now (members .exit))) (five 0 (now (raised .exit)) (now (completed .exit)) (now (bytes .exit)) 0) (now (memory .exit)) (now (buffer .exit)) list (step (switchOf (deviceIn (now (registers .entry))) (arrays (now (flows .entry)) (now (heads .entry)) (now (members .entry)))) (borrowed (now (memory .entry)) frame (now (buffer .entry)) list) Process)) ⌝ }
+    ensures { λ r. ⌜ ((frame list : List ℕ) → Outcome r (now (registers .entry)) (now (registers .exit)) (storage (now (flows .entry)) (now (heads .entry)) (now (members .entry)) (now (order .entry))) (storage (now (flows .exit)) (now (heads .exit)) (now (members .exit)) (now (order .exit))) (five 0 (now (raised .exit)) (now (completed .exit)) (now (bytes .exit)) 0) (now (memory .exit)) (now (buffer .exit)) list (step (switchOf (deviceIn (now (registers .entry))) (storage (now (flows .entry)) (now (heads .entry)) (now (members .entry)) (now (order .entry)))) (borrowed (now (memory .entry)) frame (now (buffer .entry)) list) Process)) ⌝ }
 {
     let d = words::device_of(*registers);
-    let r = device::process(d, memory, buffer, flows, heads, members);
+    let r = device::process(d, memory, buffer, flows, heads, members, order);
     let completion = r.completed as u64;
     let written = r.written as u64;
     *raised = bit_of(r.interrupt);
@@ -148,19 +151,20 @@ pub extern "C" fn rocker_process_parts(
 // A frame in at a port: its outputs go to the start of the list.
 #[no_mangle]
 pub extern "C" fn rocker_frame_parts(
-    registers: &[u64; 16],
+    registers: &[u64; 20],
     flows: &FlowRows,
     heads: &GroupHeads,
     members: &GroupMembers,
+    order: &FlowOrder,
     port: u64,
     frame: &[u8],
     list: &mut [u16],
     outputs: &mut u64,
 ) -> u32
-    ensures { λ r. ⌜ ((memory buffer : List ℕ) → Outcome r (now (registers .entry)) (now (registers .entry)) (arrays (now (flows .entry)) (now (heads .entry)) (now (members .entry))) (arrays (now (flows .entry)) (now (heads .entry)) (now (members .entry))) (five 0 0 0 0 (now (outputs .exit))) memory buffer (now (list .exit)) (step (switchOf (deviceIn (now (registers .entry))) (arrays (now (flows .entry)) (now (heads .entry)) (now (members .entry)))) (borrowed memory (now (frame .entry)) buffer (now (list .entry))) (Frame port))) ⌝ }
+    ensures { λ r. ⌜ ((memory buffer : List ℕ) → Outcome r (now (registers .entry)) (now (registers .entry)) (storage (now (flows .entry)) (now (heads .entry)) (now (members .entry)) (now (order .entry))) (storage (now (flows .entry)) (now (heads .entry)) (now (members .entry)) (now (order .entry))) (five 0 0 0 0 (now (outputs .exit))) memory buffer (now (list .exit)) (step (switchOf (deviceIn (now (registers .entry))) (storage (now (flows .entry)) (now (heads .entry)) (now (members .entry)) (now (order .entry)))) (borrowed memory (now (frame .entry)) buffer (now (list .entry))) (Frame port))) ⌝ }
 {
     let d = words::device_of(*registers);
-    let r = device::frame(d, port, frame, list, flows, heads, members);
+    let r = device::frame(d, port, frame, list, flows, heads, members, order);
     *outputs = r.outputs as u64;
     let answer = r.answer;
     answer_of(answer)
@@ -169,11 +173,11 @@ pub extern "C" fn rocker_frame_parts(
 // The journal's header, to the start of the buffer.
 #[no_mangle]
 pub extern "C" fn rocker_header_parts(
-    registers: &[u64; 16],
+    registers: &[u64; 20],
     buffer: &mut [u8],
     bytes: &mut u64,
 ) -> u32
-    ensures { λ r. ⌜ ((a : Arrays) (memory frame list : List ℕ) → Outcome r (now (registers .entry)) (now (registers .entry)) a a (five 0 0 0 (now (bytes .exit)) 0) memory (now (buffer .exit)) list (step (switchOf (deviceIn (now (registers .entry))) a) (borrowed memory frame (now (buffer .entry)) list) Header)) ⌝ }
+    ensures { λ r. ⌜ ((a : Storage) (memory frame list : List ℕ) → Outcome r (now (registers .entry)) (now (registers .entry)) a a (five 0 0 0 (now (bytes .exit)) 0) memory (now (buffer .exit)) list (step (switchOf (deviceIn (now (registers .entry))) a) (borrowed memory frame (now (buffer .entry)) list) Header)) ⌝ }
 {
     let r = device::header(words::device_of(*registers), buffer);
     *bytes = r.written as u64;
@@ -184,15 +188,16 @@ pub extern "C" fn rocker_header_parts(
 // ---- Any call
 
 fn process_into(
-    registers: &mut [u64; 16],
+    registers: &mut [u64; 20],
     flows: &mut FlowRows,
     heads: &mut GroupHeads,
     members: &mut GroupMembers,
+    order: &mut FlowOrder,
     memory: &mut [u8],
     buffer: &mut [u8],
     out: &mut [u64; 5],
 ) -> u32
-    ensures { λ r. ⌜ ((frame list : List ℕ) → Outcome r (now (registers .entry)) (now (registers .exit)) (arrays (now (flows .entry)) (now (heads .entry)) (now (members .entry))) (arrays (now (flows .exit)) (now (heads .exit)) (now (members .exit))) (now (out .exit)) (now (memory .exit)) (now (buffer .exit)) list (step (switchOf (deviceIn (now (registers .entry))) (arrays (now (flows .entry)) (now (heads .entry)) (now (members .entry)))) (borrowed (now (memory .entry)) frame (now (buffer .entry)) list) Process)) ⌝ }
+    ensures { λ r. ⌜ ((frame list : List ℕ) → Outcome r (now (registers .entry)) (now (registers .exit)) (storage (now (flows .entry)) (now (heads .entry)) (now (members .entry)) (now (order .entry))) (storage (now (flows .exit)) (now (heads .exit)) (now (members .exit)) (now (order .exit))) (now (out .exit)) (now (memory .exit)) (now (buffer .exit)) list (step (switchOf (deviceIn (now (registers .entry))) (storage (now (flows .entry)) (now (heads .entry)) (now (members .entry)) (now (order .entry)))) (borrowed (now (memory .entry)) frame (now (buffer .entry)) list) Process)) ⌝ }
 {
     let mut raised = 0;
     let mut completed = 0;
@@ -202,6 +207,7 @@ fn process_into(
         flows,
         heads,
         members,
+        order,
         memory,
         buffer,
         &mut raised,
@@ -213,16 +219,17 @@ fn process_into(
 }
 
 fn frame_into(
-    registers: &[u64; 16],
+    registers: &[u64; 20],
     flows: &FlowRows,
     heads: &GroupHeads,
     members: &GroupMembers,
+    order: &FlowOrder,
     port: u64,
     frame: &[u8],
     list: &mut [u16],
     out: &mut [u64; 5],
 ) -> u32
-    ensures { λ r. ⌜ ((memory buffer : List ℕ) → Outcome r (now (registers .entry)) (now (registers .entry)) (arrays (now (flows .entry)) (now (heads .entry)) (now (members .entry))) (arrays (now (flows .entry)) (now (heads .entry)) (now (members .entry))) (now (out .exit)) memory buffer (now (list .exit)) (step (switchOf (deviceIn (now (registers .entry))) (arrays (now (flows .entry)) (now (heads .entry)) (now (members .entry)))) (borrowed memory (now (frame .entry)) buffer (now (list .entry))) (Frame port))) ⌝ }
+    ensures { λ r. ⌜ ((memory buffer : List ℕ) → Outcome r (now (registers .entry)) (now (registers .entry)) (storage (now (flows .entry)) (now (heads .entry)) (now (members .entry)) (now (order .entry))) (storage (now (flows .entry)) (now (heads .entry)) (now (members .entry)) (now (order .entry))) (now (out .exit)) memory buffer (now (list .exit)) (step (switchOf (deviceIn (now (registers .entry))) (storage (now (flows .entry)) (now (heads .entry)) (now (members .entry)) (now (order .entry)))) (borrowed memory (now (frame .entry)) buffer (now (list .entry))) (Frame port))) ⌝ }
 {
     let mut outputs = 0;
     let answer = rocker_frame_parts(
@@ -230,6 +237,7 @@ fn frame_into(
         flows,
         heads,
         members,
+        order,
         port,
         frame,
         list,
@@ -243,10 +251,11 @@ fn frame_into(
 // the functions above, so that each call of the device stands in one place of the archive, where the compiler puts it in whole.
 #[no_mangle]
 pub extern "C" fn rocker_call_parts(
-    registers: &mut [u64; 16],
+    registers: &mut [u64; 20],
     flows: &mut FlowRows,
     heads: &mut GroupHeads,
     members: &mut GroupMembers,
+    order: &mut FlowOrder,
     kind: u64,
     a: u64,
     b: u64,
@@ -257,7 +266,7 @@ pub extern "C" fn rocker_call_parts(
     list: &mut [u16],
     out: &mut [u64; 5],
 ) -> u32
-    ensures { λ r. ⌜ Outcome r (now (registers .entry)) (now (registers .exit)) (arrays (now (flows .entry)) (now (heads .entry)) (now (members .entry))) (arrays (now (flows .exit)) (now (heads .exit)) (now (members .exit))) (now (out .exit)) (now (memory .exit)) (now (buffer .exit)) (now (list .exit)) (asked (switchOf (deviceIn (now (registers .entry))) (arrays (now (flows .entry)) (now (heads .entry)) (now (members .entry)))) (borrowed (now (memory .entry)) (now (frame .entry)) (now (buffer .entry)) (now (list .entry))) kind a b c) ⌝ }
+    ensures { λ r. ⌜ Outcome r (now (registers .entry)) (now (registers .exit)) (storage (now (flows .entry)) (now (heads .entry)) (now (members .entry)) (now (order .entry))) (storage (now (flows .exit)) (now (heads .exit)) (now (members .exit)) (now (order .exit))) (now (out .exit)) (now (memory .exit)) (now (buffer .exit)) (now (list .exit)) (asked (switchOf (deviceIn (now (registers .entry))) (storage (now (flows .entry)) (now (heads .entry)) (now (members .entry)) (now (order .entry)))) (borrowed (now (memory .entry)) (now (frame .entry)) (now (buffer .entry)) (now (list .entry))) kind a b c) ⌝ }
 {
     if kind == 0 {
         let mut value = 0;
@@ -272,10 +281,10 @@ pub extern "C" fn rocker_call_parts(
         return answer;
     }
     if kind == 3 {
-        return process_into(registers, flows, heads, members, memory, buffer, out);
+        return process_into(registers, flows, heads, members, order, memory, buffer, out);
     }
     if kind == 4 {
-        return frame_into(registers, flows, heads, members, a, frame, list, out);
+        return frame_into(registers, flows, heads, members, order, a, frame, list, out);
     }
     if kind == 5 {
         let mut bytes = 0;

@@ -6,17 +6,19 @@ use mathlib.Core.Path.{_≡_, refl, sym, ap, _∙_}
 use mathlib.Core.List.{List, [], nil≢cons}
 use lib.Dec.{ltb}
 use native.Mathlib.Omega.{arith}
-use lib.ListN.{length}
+use lib.ListN.{length, replicate}
 use borrow.Author.Tests.{lt-ltb, le-ltb}
 use Rattle.rules.specs.Choose.{choose}
 use Rattle.rules.specs.Answers.{number}
 use Rattle.rules.specs.Places.{live}
+use Rattle.rules.specs.Limits.{maxFlows}
 use Rattle.rules.specs.Tables.{Arrays, tablesOf, emptyTables, noneLive, freshArrays}
+use Rattle.rules.specs.Engine.{noOrder}
 use Rattle.rules.specs.Members.{elem}
 use Rattle.rules.specs.Journal.{header}
 use Rattle.rules.specs.Told.{Told}
 use Rattle.rules.specs.Registers.{accessRefusal, access, readValue, readRefusal, read, taken, sets, writeTo, unlessRefused, write, withLinks, linkEffect, freshRegisters, raised, termsOf}
-use Rattle.rules.specs.Switch.{Borrowed, Result, switchOf, unchanged, readEffect, writeEffect, linkRefusal, linked, bufferRefusal, headed, refusal, effect, step, freshRefusal, freshDevice}
+use Rattle.rules.specs.Switch.{Storage, orderIn, Borrowed, Result, switchOf, unchanged, readEffect, writeEffect, linkRefusal, linked, bufferRefusal, headed, refusal, refusalBy, effect, effectBy, step, freshRefusal, freshDevice, freshStorage}
 use Rattle.rules.specs.declared.Answer.{Answer}
 use Rattle.rules.specs.declared.Answer.the-variants.{Done, BufferShort}
 use Rattle.rules.specs.declared.Access.{Access}
@@ -24,6 +26,7 @@ use Rattle.rules.specs.declared.Access.the-variants.{NotAllowed, Reserved, Whol
 use Rattle.rules.specs.declared.Device.{Device}
 use Rattle.rules.specs.declared.Registers.{Registers}
 use Rattle.rules.specs.declared.Counts.{Counts}
+use Rattle.rules.specs.declared.Firsts.{Firsts}
 use Rattle.rules.specs.declared.Request.{Request}
 use Rattle.rules.specs.declared.Request.the-variants.{Read, Write, Link, Header}
 use Rattle.rules.proofs.Cases.{by-eq}
@@ -38,7 +41,7 @@ use Rattle.device.specs.Outcome.{Outcome, Makes, borrowed, quiet}
 use Rattle.device.specs.declared.Called.{Called}
 use Rattle.device.specs.declared.Made.{Made}
 
-module _ (d : Device) (a : Arrays) (b : Borrowed) (q : Request) where
+module _ (d : Device) (a : Storage) (b : Borrowed) (q : Request) where
   -- refused: the answer and nothing else
   pub outcome-refused : (n : Answer) → number n ≡ refusal (switchOf d a) b q → (refusal (switchOf d a) b q ≡ 0 → ⊥)
       → Outcome (quiet d n) d a a (b .memory) (b .buffer) (b .list) (step (switchOf d a) b q)
@@ -48,7 +51,7 @@ module _ (d : Device) (a : Arrays) (b : Borrowed) (q : Request) where
       (record { answer-is = e; told-is = refl; memory-is = refl; buffer-is = refl; list-is = refl; switch-is = refl; device-kept = λ z. refl; places-kept = λ z. refl })
 
   -- done: the effect
-  pub outcome-done : (r : Called) (a′ : Arrays) (memory buffer list : List ℕ) → refusal (switchOf d a) b q ≡ 0
+  pub outcome-done : (r : Called) (a′ : Storage) (memory buffer list : List ℕ) → refusal (switchOf d a) b q ≡ 0
       → Outcome r d a a′ memory buffer list (effect (switchOf d a) b q) → Outcome r d a a′ memory buffer list (step (switchOf d a) b q)
   outcome-done r a′ memory buffer list e o = rw (accepted (switchOf d a) b q e) o
 
@@ -59,7 +62,7 @@ unfolding raised elem
 vector-told true = refl
 vector-told false = refl
 
-module _ {r : Called} {d : Device} {a a′ : Arrays} {memory buffer list : List ℕ} {of : Result} (o : Outcome r d a a′ memory buffer list of) where
+module _ {r : Called} {d : Device} {a a′ : Storage} {memory buffer list : List ℕ} {of : Result} (o : Outcome r d a a′ memory buffer list of) where
   pub value-told : r .value ≡ of .told .value
   value-told = ap (λ (t : Told). t .value) (o .told-is)
 
@@ -90,10 +93,10 @@ read-refused d (Upper r) n = absurd (n refl)
 unfoldable pub withValue : Called → ℕ → Called
 withValue r v = record { answer = r .answer; value = v; interrupt = r .interrupt; completed = r .completed; written = r .written; outputs = r .outputs; device = r .device }
 
-module _ (d : Device) (a : Arrays) (b : Borrowed) where
+module _ (d : Device) (a : Storage) (b : Borrowed) where
   pub read-outcome : (offset width : ℕ) (x : Reading) → Reads x (d .registers) offset width
       → Outcome (withValue (quiet d (x .answer)) (x .value)) d a a (b .memory) (b .buffer) (b .list) (step (switchOf d a) b (Read offset width))
-  unfolding withValue quiet refusal effect readEffect switchOf raised
+  unfolding withValue quiet refusalBy effectBy readEffect switchOf raised
   read-outcome offset width x h =
       by-eq (readRefusal offset width) 0
       (λ e p. outcome-done d a b (Read offset width) _ _ _ _ _ e
@@ -105,9 +108,9 @@ module _ (d : Device) (a : Arrays) (b : Borrowed) where
 
   pub link-outcome : (e : Device) (port : ℕ) (up : Bool) (x : Changed)
       → Changes x (linkRefusal (d .registers) port) (withLinks (d .registers) (linkEffect (d .registers .links) port up)) (d .registers)
-      → e ≡ record { registers = x .registers; counts = d .counts }
+      → e ≡ record { registers = x .registers; counts = d .counts; firsts = d .firsts }
       → Outcome (quiet e (x .answer)) d a a (b .memory) (b .buffer) (b .list) (step (switchOf d a) b (Link port up))
-  unfolding refusal effect linked switchOf quiet raised
+  unfolding refusalBy effectBy linked switchOf quiet raised
   link-outcome e port up x h k =
       by-eq (linkRefusal (d .registers) port) 0
       (λ z p. let r : x .registers ≡ withLinks (d .registers) (linkEffect (d .registers .links) port up) = h .registers ∙ rw p in
@@ -118,9 +121,14 @@ module _ (d : Device) (a : Arrays) (b : Borrowed) where
 
 -- ---- Fresh
 
-pub made : (r : Made) (ports id : ℕ) (x : Changed) (a a′ : Arrays) → Changes x (freshRefusal ports) (freshRegisters ports id) (freshRegisters 0 0)
-    → r ≡ record { answer = x .answer; device = record { registers = x .registers; counts = noneLive } }
-    → (number (x .answer) ≡ 0 → a′ ≡ freshArrays) → ((number (x .answer) ≡ 0 → ⊥) → a′ ≡ a) → Makes r ports id a a′
+-- every number 0
+pub cleared : {a : Arrays} → a ≡ freshArrays → record { arrays = a; order = replicate maxFlows 0 } ≡ freshStorage
+unfolding freshStorage
+cleared e = ap (λ (x : Arrays). record { arrays = x; order = replicate maxFlows 0 }) e
+
+pub made : (r : Made) (ports id : ℕ) (x : Changed) (a a′ : Storage) → Changes x (freshRefusal ports) (freshRegisters ports id) (freshRegisters 0 0)
+    → r ≡ record { answer = x .answer; device = record { registers = x .registers; counts = noneLive; firsts = noOrder .firsts } }
+    → (number (x .answer) ≡ 0 → a′ ≡ freshStorage) → ((number (x .answer) ≡ 0 → ⊥) → a′ ≡ a) → Makes r ports id a a′
 unfolding freshDevice
 made r ports id x a a′ h is f k =
     record {
@@ -154,38 +162,46 @@ unfolding tablesOf noneLive emptyTables live
 counts-after true counts a = refl
 counts-after false counts a = refl
 
-module _ (d : Device) (a : Arrays) (b : Borrowed) (offset width v : ℕ) (x : regs.Written) (h : Gives x (write (d .registers) offset width v)) where
-  -- e has the registers after the write, and the tables as they were or, after a reset, none
-  pub write-outcome : (counts : Counts) → counts ≡ choose (x .resets) noneLive (d .counts)
-      → Outcome (withInterrupt (quiet (record { registers = x .registers; counts = counts }) (x .answer)) (x .interrupt)) d a a (b .memory) (b .buffer) (b .list) (step (switchOf d a) b (Write offset width v))
-  unfolding withInterrupt quiet refusal effect writeEffect switchOf
-  write-outcome counts k =
+-- and their order: empty after one
+order-after : (resets : Bool) (counts : Counts) (firsts : Firsts) (bytes : List ℕ)
+    → orderIn (choose resets noneLive counts .flows) (choose resets (noOrder .firsts) firsts) bytes ≡ choose resets noOrder (orderIn (counts .flows) firsts bytes)
+unfolding orderIn noneLive noOrder
+order-after true counts firsts bytes = refl
+order-after false counts firsts bytes = refl
+
+module _ (d : Device) (a : Storage) (b : Borrowed) (offset width v : ℕ) (x : regs.Written) (h : Gives x (write (d .registers) offset width v)) where
+  -- the device has the registers after the write, and tables and order as they were or, after a reset, none
+  pub write-outcome : (counts : Counts) (firsts : Firsts) → counts ≡ choose (x .resets) noneLive (d .counts)
+      → firsts ≡ choose (x .resets) (noOrder .firsts) (d .firsts)
+      → Outcome (withInterrupt (quiet (record { registers = x .registers; counts = counts; firsts = firsts }) (x .answer)) (x .interrupt)) d a a (b .memory) (b .buffer) (b .list) (step (switchOf d a) b (Write offset width v))
+  unfolding withInterrupt quiet refusalBy effectBy writeEffect switchOf
+  write-outcome counts firsts k l =
       by-eq (write (d .registers) offset width v .refusal) 0
       (λ z p. outcome-done d a b (Write offset width v) _ _ _ _ _ z
-      (record { answer-is = h .answer ∙ z; told-is = rw (h .vectors); memory-is = refl; buffer-is = refl; list-is = refl; switch-is = rw (k, h .registers, counts-after (x .resets) (d .counts) a, h .resets); device-kept = λ n. absurd (n refl); places-kept = λ n. refl }))
+      (record { answer-is = h .answer ∙ z; told-is = rw (h .vectors); memory-is = refl; buffer-is = refl; list-is = refl; switch-is = rw (k, l, h .registers, counts-after (x .resets) (d .counts) (a .arrays), order-after (x .resets) (d .counts) (d .firsts) (a .order), h .resets); device-kept = λ n. absurd (n refl); places-kept = λ n. refl }))
       (λ n p.
       let w = write-kept (d .registers) offset width v n in
       let i : x .interrupt ≡ false = none-raised (x .interrupt) (h .vectors ∙ rw w (unfold sets in refl)) in
       let y : x .resets ≡ false = h .resets ∙ rw w (unfold sets in refl) in
       let g : x .registers ≡ d .registers = h .registers ∙ rw w (unfold sets in refl) in
-      rw (i, k, y, g) (unfold quiet in outcome-refused d a b (Write offset width v) (x .answer) (h .answer) n))
+      rw (i, k, l, y, g) (unfold quiet in outcome-refused d a b (Write offset width v) (x .answer) (h .answer) n))
 
 -- ---- Header
 
 unfoldable pub withWritten : Called → ℕ → Called
 withWritten r n = record { answer = r .answer; value = r .value; interrupt = r .interrupt; completed = r .completed; written = n; outputs = r .outputs; device = r .device }
 
-module _ (d : Device) (a : Arrays) (memory frame buffer list : List ℕ) where
+module _ (d : Device) (a : Storage) (memory frame buffer list : List ℕ) where
   pub header-short : length buffer < 6
       → Outcome (quiet d BufferShort) d a a memory buffer list (step (switchOf d a) (borrowed memory frame buffer list) Header)
-  unfolding borrowed refusal bufferRefusal number
+  unfolding borrowed refusalBy bufferRefusal number
   header-short h =
       let e : refusal (switchOf d a) (borrowed memory frame buffer list) Header ≡ 6 = rw (lt-ltb _ _ h) in
       outcome-refused d a (borrowed memory frame buffer list) Header BufferShort (sym e) (λ z. absurd (let y : _≡_ {A = ℕ} 6 0 = sym e ∙ z in omega arith))
 
   pub header-done : (n : ℕ) (after : List ℕ) → 6 ≤ length buffer → Writes n after (header (termsOf (d .registers))) buffer
       → Outcome (withWritten (quiet d Done) n) d a a memory after list (step (switchOf d a) (borrowed memory frame buffer list) Header)
-  unfolding borrowed refusal bufferRefusal withWritten quiet effect headed switchOf number raised
+  unfolding borrowed refusalBy bufferRefusal withWritten quiet effectBy headed switchOf number raised
   header-done n after h w =
       let t : ltb (length buffer) (length (header (termsOf (d .registers)))) ≡ false = rw length-header (le-ltb _ _ h) in
       let e : refusal (switchOf d a) (borrowed memory frame buffer list) Header ≡ 0 = rw (le-ltb _ _ h) in

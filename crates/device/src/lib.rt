@@ -6,9 +6,12 @@ use rules::Answer;
 use rules::CURRENT_VERSION;
 use rules::Counts;
 use rules::Device;
+use rules::Firsts;
+use rules::FlowOrder;
 use rules::FlowRows;
 use rules::GroupHeads;
 use rules::GroupMembers;
+use rules::MAX_FLOWS;
 use rules::Registers;
 use rules::Request;
 use rules::Terms;
@@ -17,8 +20,9 @@ ghost use mathlib.Core.List.{List};
 ghost use Prim.Native.Nat.{ℕ};
 ghost use Rattle.rules.specs.Choose.{choose};
 ghost use Rattle.rules.specs.Registers.{termsOf};
-ghost use Rattle.rules.specs.Tables.{Arrays, arrays, noneLive};
-ghost use Rattle.rules.specs.Switch.{Borrowed, switchOf, step};
+ghost use Rattle.rules.specs.Tables.{noneLive};
+ghost use Rattle.rules.specs.Engine.{noOrder};
+ghost use Rattle.rules.specs.Switch.{Storage, storage, Borrowed, switchOf, step};
 ghost use Rattle.rules.specs.declared.Request.the-variants.{Read, Write, Link, Process, Frame, Header};
 ghost use Rattle.device.specs.Outcome.{Outcome, Makes, borrowed, quiet};
 
@@ -56,6 +60,18 @@ fn answered(d: Device, answer: Answer) -> Called
     }
 }
 
+// Of an empty order each table begins at 0.
+fn no_firsts() -> Firsts
+    ensures { λ r. ⌜ r ≡ noOrder .firsts ⌝ }
+{
+    Firsts {
+        vlan: 0,
+        termination: 0,
+        routing: 0,
+        bridging: 0,
+    }
+}
+
 // A new device: 1 to 62 ports, all links down, the tables empty. Refused, it leaves the arrays as they are.
 pub fn fresh(
     ports: u64,
@@ -63,14 +79,17 @@ pub fn fresh(
     flows: &mut FlowRows,
     heads: &mut GroupHeads,
     members: &mut GroupMembers,
+    order: &mut FlowOrder,
 ) -> Made
-    ensures { λ r. ⌜ Makes r ports «switch_id» (arrays (now (flows .entry)) (now (heads .entry)) (now (members .entry))) (arrays (now (flows .exit)) (now (heads .exit)) (now (members .exit))) ⌝ }
+    ensures { λ r. ⌜ Makes r ports «switch_id» (storage (now (flows .entry)) (now (heads .entry)) (now (members .entry)) (now (order .entry))) (storage (now (flows .exit)) (now (heads .exit)) (now (members .exit)) (now (order .exit))) ⌝ }
 {
     let made = registers::fresh(ports, switch_id);
     let answer = made.answer;
     let registers = made.registers;
+    let firsts = no_firsts();
     if answers::number(answer) == 0 {
         tables::clear(flows, heads, members);
+        *order = [0; MAX_FLOWS];
     }
     Made {
         answer: answer,
@@ -80,24 +99,27 @@ pub fn fresh(
                 flows: 0,
                 groups: 0,
             },
+            firsts: firsts,
         },
     }
 }
 
 // The device with other registers.
 fn with_registers(d: Device, registers: Registers) -> Device
-    ensures { λ r. ⌜ r ≡ record { registers = registers; counts = d .counts } ⌝ }
+    ensures { λ r. ⌜ r ≡ record { registers = registers; counts = d .counts; firsts = d .firsts } ⌝ }
 {
     let counts = d.counts;
+    let firsts = d.firsts;
     Device {
         registers: registers,
         counts: counts,
+        firsts: firsts,
     }
 }
 
 // The owner sets a port's link up or down.
 pub fn link(d: Device, port: u64, up: bool) -> Called
-    ensures { λ r. ⌜ ((a : Arrays) (b : Borrowed) → Outcome r d a a (b .memory) (b .buffer) (b .list) (step (switchOf d a) b (Link port up))) ⌝ }
+    ensures { λ r. ⌜ ((a : Storage) (b : Borrowed) → Outcome r d a a (b .memory) (b .buffer) (b .list) (step (switchOf d a) b (Link port up))) ⌝ }
 {
     let regs = d.registers;
     let after = registers::link(regs, port, up);
@@ -108,7 +130,7 @@ pub fn link(d: Device, port: u64, up: bool) -> Called
 
 // A register read.
 pub fn read(d: Device, offset: u64, width: u64) -> Called
-    ensures { λ r. ⌜ ((a : Arrays) (b : Borrowed) → Outcome r d a a (b .memory) (b .buffer) (b .list) (step (switchOf d a) b (Read offset width))) ⌝ }
+    ensures { λ r. ⌜ ((a : Storage) (b : Borrowed) → Outcome r d a a (b .memory) (b .buffer) (b .list) (step (switchOf d a) b (Read offset width))) ⌝ }
 {
     let regs = d.registers;
     let got = registers::read(regs, offset, width);
@@ -133,18 +155,27 @@ fn counts_after(resets: bool, counts: Counts) -> Counts
     }
 }
 
+// Where tables begin in the order after a write: at 0 after a device reset.
+fn firsts_after(resets: bool, firsts: Firsts) -> Firsts
+    ensures { λ r. ⌜ r ≡ choose resets (noOrder .firsts) firsts ⌝ }
+{
+    if resets { no_firsts() } else { firsts }
+}
+
 // A register write. A device reset leaves no place live, and no write touches a place.
 pub fn write(d: Device, offset: u64, width: u64, value: u64) -> Called
-    ensures { λ r. ⌜ ((a : Arrays) (b : Borrowed) → Outcome r d a a (b .memory) (b .buffer) (b .list) (step (switchOf d a) b (Write offset width value))) ⌝ }
+    ensures { λ r. ⌜ ((a : Storage) (b : Borrowed) → Outcome r d a a (b .memory) (b .buffer) (b .list) (step (switchOf d a) b (Write offset width value))) ⌝ }
 {
     let regs = d.registers;
     let w = registers::write(regs, offset, width, value);
     let answer = w.answer;
     let registers = w.registers;
     let counts = d.counts;
+    let firsts = d.firsts;
     let after = Device {
         registers: registers,
         counts: counts_after(w.resets, counts),
+        firsts: firsts_after(w.resets, firsts),
     };
     let mut r = answered(after, answer);
     r.interrupt = w.interrupt;
@@ -163,7 +194,7 @@ fn terms_of(d: Registers) -> Terms
 
 // The journal's header, to the start of the buffer.
 pub fn header(d: Device, buffer: &mut [u8]) -> Called
-    ensures { λ r. ⌜ ((a : Arrays) (memory frame list : List ℕ) → Outcome r d a a memory (now (buffer .exit)) list (step (switchOf d a) (borrowed memory frame (now (buffer .entry)) list) Header)) ⌝ }
+    ensures { λ r. ⌜ ((a : Storage) (memory frame list : List ℕ) → Outcome r d a a memory (now (buffer .exit)) list (step (switchOf d a) (borrowed memory frame (now (buffer .entry)) list) Header)) ⌝ }
 {
     if buffer.len() < 6 {
         return answered(d, Answer::BufferShort);
@@ -184,8 +215,9 @@ pub fn process(
     flows: &mut FlowRows,
     heads: &mut GroupHeads,
     members: &mut GroupMembers,
+    order: &mut FlowOrder,
 ) -> Called
-    ensures { λ r. ⌜ ((frame list : List ℕ) → Outcome r d (arrays (now (flows .entry)) (now (heads .entry)) (now (members .entry))) (arrays (now (flows .exit)) (now (heads .exit)) (now (members .exit))) (now (memory .exit)) (now (buffer .exit)) list (step (switchOf d (arrays (now (flows .entry)) (now (heads .entry)) (now (members .entry)))) (borrowed (now (memory .entry)) frame (now (buffer .entry)) list) Process)) ⌝ }
+    ensures { λ r. ⌜ ((frame list : List ℕ) → Outcome r d (storage (now (flows .entry)) (now (heads .entry)) (now (members .entry)) (now (order .entry))) (storage (now (flows .exit)) (now (heads .exit)) (now (members .exit)) (now (order .exit))) (now (memory .exit)) (now (buffer .exit)) list (step (switchOf d (storage (now (flows .entry)) (now (heads .entry)) (now (members .entry)) (now (order .entry)))) (borrowed (now (memory .entry)) frame (now (buffer .entry)) list) Process)) ⌝ }
 {
     let regs = d.registers;
     let ring = registers::command_ring(regs);
@@ -197,11 +229,13 @@ pub fn process(
     let s = t.slot;
     let q = slot::prepare(memory, buffer, s, terms_of(regs));
     let counts = d.counts;
-    let x = execute::execute(q, counts, flows, heads, members);
+    let firsts = d.firsts;
+    let x = carrying::carry_out(q, counts, firsts, flows, heads, members, order);
     let status = x.status;
     let completed = slot::finish(memory, buffer, t.at, s.size, status, ring.tail);
     let moved = registers::complete(regs);
     let live = x.counts;
+    let begins = x.firsts;
     Called {
         answer: Answer::Done,
         value: 0,
@@ -212,6 +246,7 @@ pub fn process(
         device: Device {
             registers: moved,
             counts: live,
+            firsts: begins,
         },
     }
 }
@@ -225,12 +260,25 @@ pub fn frame(
     flows: &FlowRows,
     heads: &GroupHeads,
     members: &GroupMembers,
+    order: &FlowOrder,
 ) -> Called
-    ensures { λ r. ⌜ ((memory buffer : List ℕ) → Outcome r d (arrays (now (flows .entry)) (now (heads .entry)) (now (members .entry))) (arrays (now (flows .entry)) (now (heads .entry)) (now (members .entry))) memory buffer (now (list .exit)) (step (switchOf d (arrays (now (flows .entry)) (now (heads .entry)) (now (members .entry)))) (borrowed memory (now (f .entry)) buffer (now (list .entry))) (Frame port))) ⌝ }
+    ensures { λ r. ⌜ ((memory buffer : List ℕ) → Outcome r d (storage (now (flows .entry)) (now (heads .entry)) (now (members .entry)) (now (order .entry))) (storage (now (flows .entry)) (now (heads .entry)) (now (members .entry)) (now (order .entry))) memory buffer (now (list .exit)) (step (switchOf d (storage (now (flows .entry)) (now (heads .entry)) (now (members .entry)) (now (order .entry)))) (borrowed memory (now (f .entry)) buffer (now (list .entry))) (Frame port))) ⌝ }
 {
     let regs = d.registers;
     let counts = d.counts;
-    let x = egress::frame(regs, counts, flows, heads, members, port, f, list);
+    let firsts = d.firsts;
+    let x = egress::frame(
+        regs,
+        counts,
+        firsts,
+        flows,
+        order,
+        heads,
+        members,
+        port,
+        f,
+        list,
+    );
     let answer = x.answer;
     let n = x.outputs;
     let mut r = answered(d, answer);
@@ -249,8 +297,9 @@ pub fn call(
     flows: &mut FlowRows,
     heads: &mut GroupHeads,
     members: &mut GroupMembers,
+    order: &mut FlowOrder,
 ) -> Called
-    ensures { λ r. ⌜ Outcome r d (arrays (now (flows .entry)) (now (heads .entry)) (now (members .entry))) (arrays (now (flows .exit)) (now (heads .exit)) (now (members .exit))) (now (memory .exit)) (now (buffer .exit)) (now (list .exit)) (step (switchOf d (arrays (now (flows .entry)) (now (heads .entry)) (now (members .entry)))) (borrowed (now (memory .entry)) (now (f .entry)) (now (buffer .entry)) (now (list .entry))) request) ⌝ }
+    ensures { λ r. ⌜ Outcome r d (storage (now (flows .entry)) (now (heads .entry)) (now (members .entry)) (now (order .entry))) (storage (now (flows .exit)) (now (heads .exit)) (now (members .exit)) (now (order .exit))) (now (memory .exit)) (now (buffer .exit)) (now (list .exit)) (step (switchOf d (storage (now (flows .entry)) (now (heads .entry)) (now (members .entry)) (now (order .entry)))) (borrowed (now (memory .entry)) (now (f .entry)) (now (buffer .entry)) (now (list .entry))) request) ⌝ }
 {
     match request {
         Request::Read { offset, width } => read(d, offset, width),
@@ -260,8 +309,8 @@ pub fn call(
             value,
         } => write(d, offset, width, value),
         Request::Link { port, up } => link(d, port, up),
-        Request::Process => process(d, memory, buffer, flows, heads, members),
-        Request::Frame { port } => frame(d, port, f, list, flows, heads, members),
+        Request::Process => process(d, memory, buffer, flows, heads, members, order),
+        Request::Frame { port } => frame(d, port, f, list, flows, heads, members, order),
         Request::Header => header(d, buffer),
     }
 }

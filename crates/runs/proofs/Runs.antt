@@ -15,7 +15,8 @@ use Rattle.rules.specs.Places.{live}
 use Rattle.rules.specs.Registers.{portCountAllowed, currentTerms}
 use Rattle.rules.specs.Tables.{Arrays, tablesOf, emptyTables, noneLive}
 use Rattle.rules.specs.Journal.{Progress, header, replay}
-use Rattle.rules.specs.Switch.{Switch, switchOf, freshRefusal, freshSwitch, freshDevice}
+use Rattle.rules.specs.Engine.{noOrder}
+use Rattle.rules.specs.Switch.{Switch, Storage, orderIn, switchOf, freshRefusal, freshSwitch, freshDevice}
 use Rattle.rules.specs.declared.Device.{Device}
 use Rattle.rules.proofs.Cases.{by-eq, and-left, and-right}
 use Rattle.device.specs.Outcome.{borrowed}
@@ -32,8 +33,8 @@ use Rattle.runs.specs.Runs.{CodeCall, Ensured, Chain, lastDevice, lastAr
 -- ---- A fresh device
 
 -- no place is live, so device and arrays stand for the fresh switch, whatever the places hold
-pub fresh-switch : (ports id : ℕ) (a : Arrays) → switchOf (freshDevice ports id) a ≡ freshSwitch ports id
-unfolding switchOf freshDevice freshSwitch tablesOf noneLive emptyTables live
+pub fresh-switch : (ports id : ℕ) (a : Storage) → switchOf (freshDevice ports id) a ≡ freshSwitch ports id
+unfolding switchOf freshDevice freshSwitch tablesOf noneLive emptyTables live orderIn noOrder
 fresh-switch ports id a = refl
 
 not-refused : (t : Bool) → refuse (not t) 7 0 ≡ 0 → t ≡ true
@@ -56,14 +57,14 @@ abbrev callsOf : List CodeCall → List Call
 callsOf [] = []
 callsOf (c ∷ cs) = callOf c ∷ callsOf cs
 
-seen-is : (d : Device) (a : Arrays) (c : CodeCall) → Ensured d a c
+seen-is : (d : Device) (a : Storage) (c : CodeCall) → Ensured d a c
     → seenBy d c ≡ seen (switchOf d a) (callOf c .borrowed) (c .request) (stepAt (switchOf d a) (callOf c))
 unfolding seenBy seen stepAt borrowed
 seen-is d a c o =
     let r : switchOf d a .registers ≡ d .registers = unfold switchOf in refl in
     rw (o .answer-is, completed-told o, written-told o, o .buffer-is, o .memory-is, r)
 
-chain-is : (d : Device) (a : Arrays) (cs : List CodeCall) → Chain d a cs
+chain-is : (d : Device) (a : Storage) (cs : List CodeCall) → Chain d a cs
     → (switchOf (lastDevice d cs) (lastArrays a cs) ≡ final (switchOf d a) (callsOf cs)) × (seenOf d cs ≡ trace (switchOf d a) (callsOf cs))
 unfolding lastDevice lastArrays seenOf final trace
 chain-is d a [] h = (refl, refl)

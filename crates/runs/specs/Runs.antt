@@ -8,7 +8,7 @@ use Rattle.rules.specs.Answers.{number}
 use Rattle.rules.specs.Registers.{commandRing, currentTerms}
 use Rattle.rules.specs.Tables.{Arrays, tablesOf}
 use Rattle.rules.specs.Journal.{header, replay}
-use Rattle.rules.specs.Switch.{Switch, switchOf, step}
+use Rattle.rules.specs.Switch.{Switch, Storage, switchOf, step}
 use Rattle.rules.specs.declared.Device.{Device}
 use Rattle.rules.specs.declared.Request.{Request}
 use Rattle.device.specs.Outcome.{Outcome, Makes, borrowed}
@@ -28,19 +28,19 @@ pub record CodeCall : Type 0 where
   pub buffer : List ℕ
   pub list : List ℕ
   pub gives : Called
-  pub arraysAfter : Arrays
+  pub arraysAfter : Storage
   pub memoryAfter : List ℕ
   pub bufferAfter : List ℕ
   pub listAfter : List ℕ
 
 -- what `device::call` ensures of it, called on the device d whose places stand in the arrays a
-abbrev pub Ensured : Device → Arrays → CodeCall → Type 0
+abbrev pub Ensured : Device → Storage → CodeCall → Type 0
 Ensured d a c =
     Outcome (c .gives) d a (c .arraysAfter) (c .memoryAfter) (c .bufferAfter) (c .listAfter)
     (step (switchOf d a) (borrowed (c .memory) (c .frame) (c .buffer) (c .list)) (c .request))
 
 -- calls one after another: each gets the device and the arrays that the one before it left, so nobody else writes them between
-abbrev pub Chain : Device → Arrays → List CodeCall → Type 0
+abbrev pub Chain : Device → Storage → List CodeCall → Type 0
 Chain d a [] = Unit {0}
 Chain d a (c ∷ cs) = Ensured d a c × Chain (c .gives .device) (c .arraysAfter) cs
 
@@ -49,7 +49,7 @@ unfoldable pub lastDevice : Device → List CodeCall → Device
 lastDevice d [] = d
 lastDevice d (c ∷ cs) = lastDevice (c .gives .device) cs
 
-unfoldable pub lastArrays : Arrays → List CodeCall → Arrays
+unfoldable pub lastArrays : Storage → List CodeCall → Storage
 lastArrays a [] = a
 lastArrays a (c ∷ cs) = lastArrays (c .arraysAfter) cs
 
@@ -73,8 +73,8 @@ seenOf d (c ∷ cs) = seenBy d c ∷ seenOf (c .gives .device) cs
 -- A run with so many ports and this switch ID: what `device::fresh` ensures, answered 0, and a chain of calls from what it left
 pub record Run (ports id : ℕ) : Type 0 where
   pub made : Made
-  pub arraysBefore : Arrays
-  pub arrays : Arrays
+  pub arraysBefore : Storage
+  pub arrays : Storage
   pub fresh : Makes made ports id arraysBefore arrays
   pub answered : number (made .answer) ≡ 0
   pub calls : List CodeCall

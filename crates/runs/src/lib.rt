@@ -5,11 +5,13 @@ use device::Called;
 use device::Made;
 use replaying::replay::Replayed;
 use rules::Device;
+use rules::FlowOrder;
 use rules::FlowRows;
 use rules::GroupHeads;
 use rules::GroupMembers;
 use rules::Request;
 ghost use Rattle.rules.specs.Tables.{arrays};
+ghost use Rattle.rules.specs.Switch.{storage};
 ghost use Rattle.rules.specs.Journal.{replay as Journal·replay};
 ghost use Rattle.device.specs.Outcome.{Makes};
 ghost use Rattle.replaying.specs.Replaying.{Gives};
@@ -22,10 +24,11 @@ fn fresh(
     flows: &mut FlowRows,
     heads: &mut GroupHeads,
     members: &mut GroupMembers,
+    order: &mut FlowOrder,
 ) -> Made
-    ensures { λ r. ⌜ Makes r ports «switch_id» (arrays (now (flows .entry)) (now (heads .entry)) (now (members .entry))) (arrays (now (flows .exit)) (now (heads .exit)) (now (members .exit))) ⌝ }
+    ensures { λ r. ⌜ Makes r ports «switch_id» (storage (now (flows .entry)) (now (heads .entry)) (now (members .entry)) (now (order .entry))) (storage (now (flows .exit)) (now (heads .exit)) (now (members .exit)) (now (order .exit))) ⌝ }
 {
-    device::fresh(ports, switch_id, flows, heads, members)
+    device::fresh(ports, switch_id, flows, heads, members, order)
 }
 
 // A link of its chain: `Chain` has it.
@@ -39,10 +42,22 @@ fn call(
     flows: &mut FlowRows,
     heads: &mut GroupHeads,
     members: &mut GroupMembers,
+    order: &mut FlowOrder,
 ) -> Called
-    ensures { λ r. ⌜ Ensured d (arrays (now (flows .entry)) (now (heads .entry)) (now (members .entry))) (record { request = request; memory = now (memory .entry); frame = now (f .entry); buffer = now (buffer .entry); list = now (list .entry); gives = r; arraysAfter = arrays (now (flows .exit)) (now (heads .exit)) (now (members .exit)); memoryAfter = now (memory .exit); bufferAfter = now (buffer .exit); listAfter = now (list .exit) }) ⌝ }
+    ensures { λ r. ⌜ Ensured d (storage (now (flows .entry)) (now (heads .entry)) (now (members .entry)) (now (order .entry))) (record { request = request; memory = now (memory .entry); frame = now (f .entry); buffer = now (buffer .entry); list = now (list .entry); gives = r; arraysAfter = storage (now (flows .exit)) (now (heads .exit)) (now (members .exit)) (now (order .exit)); memoryAfter = now (memory .exit); bufferAfter = now (buffer .exit); listAfter = now (list .exit) }) ⌝ }
 {
-    device::call(d, request, memory, f, buffer, list, flows, heads, members)
+    device::call(
+        d,
+        request,
+        memory,
+        f,
+        buffer,
+        list,
+        flows,
+        heads,
+        members,
+        order,
+    )
 }
 
 // The replay of its journal: `CodeClaim` has it.

@@ -5,6 +5,7 @@ use lines::Reader;
 use lines::print;
 use rules::Device;
 use rules::FLOW_WORDS;
+use rules::FlowOrder;
 use rules::FlowRows;
 use rules::GroupHeads;
 use rules::GroupMembers;
@@ -35,13 +36,14 @@ fn run_fresh(
     flows: &mut FlowRows,
     heads: &mut GroupHeads,
     members: &mut GroupMembers,
+    order: &mut FlowOrder,
 ) -> Console {
     let n = text::arguments(s, 3);
     if !n.good {
         print::complain(line, b"expected fresh PORTS SWITCH_ID");
         return p;
     }
-    let r = device::fresh(n.a, n.b, flows, heads, members);
+    let r = device::fresh(n.a, n.b, flows, heads, members, order);
     let answer = r.answer;
     print::answer(answers::number(answer));
     print::end();
@@ -74,6 +76,7 @@ fn run_call(
     flows: &mut FlowRows,
     heads: &mut GroupHeads,
     members: &mut GroupMembers,
+    order: &mut FlowOrder,
 ) -> Console {
     if !p.made {
         print::complain(line, b"no device");
@@ -91,6 +94,7 @@ fn run_call(
         flows,
         heads,
         members,
+        order,
     );
     let mut q = p;
     q.device = after;
@@ -108,6 +112,7 @@ fn run_line(
     flows: &mut FlowRows,
     heads: &mut GroupHeads,
     members: &mut GroupMembers,
+    order: &mut FlowOrder,
 ) -> Console {
     let g = guest::call(p.memory, s, line, memory);
     if g.taken {
@@ -116,9 +121,20 @@ fn run_line(
         return q;
     }
     if check::same(text::word(s, 0), b"fresh") {
-        return run_fresh(p, s, line, flows, heads, members);
+        return run_fresh(p, s, line, flows, heads, members, order);
     }
-    run_call(p, s, line, memory, buffer, list, flows, heads, members)
+    run_call(
+        p,
+        s,
+        line,
+        memory,
+        buffer,
+        list,
+        flows,
+        heads,
+        members,
+        order,
+    )
 }
 
 // The line that a reader has taken.
@@ -132,6 +148,7 @@ fn run_taken(
     flows: &mut FlowRows,
     heads: &mut GroupHeads,
     members: &mut GroupMembers,
+    order: &mut FlowOrder,
 ) -> Console {
     if r.long {
         print::complain(r.lines, b"longer than 65535 bytes");
@@ -142,7 +159,18 @@ fn run_taken(
     if passed_over(s) {
         return p;
     }
-    run_line(p, s, r.lines, memory, buffer, list, flows, heads, members)
+    run_line(
+        p,
+        s,
+        r.lines,
+        memory,
+        buffer,
+        list,
+        flows,
+        heads,
+        members,
+        order,
+    )
 }
 
 // One line taken and run.
@@ -156,11 +184,23 @@ fn turn(
     flows: &mut FlowRows,
     heads: &mut GroupHeads,
     members: &mut GroupMembers,
+    order: &mut FlowOrder,
 ) -> Script {
     let before = t.reader;
     let reader = lines::take(before, input, line);
     let p = t.console;
-    let console = run_taken(p, reader, line, memory, buffer, list, flows, heads, members);
+    let console = run_taken(
+        p,
+        reader,
+        line,
+        memory,
+        buffer,
+        list,
+        flows,
+        heads,
+        members,
+        order,
+    );
     Script {
         console: console,
         reader: reader,
@@ -168,8 +208,13 @@ fn turn(
     }
 }
 
-fn begin(flows: &mut FlowRows, heads: &mut GroupHeads, members: &mut GroupMembers) -> Script {
-    let none = device::fresh(0, 0, flows, heads, members);
+fn begin(
+    flows: &mut FlowRows,
+    heads: &mut GroupHeads,
+    members: &mut GroupMembers,
+    order: &mut FlowOrder,
+) -> Script {
+    let none = device::fresh(0, 0, flows, heads, members, order);
     let d = none.device;
     let reader = lines::start();
     Script {
@@ -189,7 +234,8 @@ pub fn run() {
     let mut flows = [[0u32; FLOW_WORDS]; MAX_FLOWS];
     let mut heads = [[0u32; HEAD_WORDS]; MAX_GROUPS];
     let mut members = [[0u16; MAX_MEMBERS]; MAX_GROUPS];
-    let mut t = begin(&mut flows, &mut heads, &mut members);
+    let mut order = [0u8; MAX_FLOWS];
+    let mut t = begin(&mut flows, &mut heads, &mut members, &mut order);
     let mut input = [0u8; 65536];
     let mut line = [0u8; 65535];
     let mut memory = [0u8; 1048576];
@@ -207,6 +253,7 @@ pub fn run() {
             &mut flows,
             &mut heads,
             &mut members,
+            &mut order,
         );
         turns -= 1;
     }

@@ -16,8 +16,9 @@ use Rattle.rules.specs.Bytes.{inside, part}
 use Rattle.rules.specs.Registers.{commandRing, termsOf}
 use Rattle.rules.specs.Descriptor.{descriptorAt, descriptor, slotRefusal}
 use Rattle.rules.specs.Tables.{Tables}
+use Rattle.rules.specs.Engine.{Order}
 use Rattle.rules.specs.Journal.{recordOf}
-use Rattle.rules.specs.Switch.{Switch, Borrowed, carry, carriedSlot, slotRecord, bufferRefusal, processRefusal}
+use Rattle.rules.specs.Switch.{Switch, Borrowed, carry, carryBy, carriedSlot, carriedSlotBy, slotRecord, slotRecordBy, bufferRefusal, processRefusal, processRefusalBy}
 use Rattle.rules.specs.declared.Terms.{Terms}
 use Rattle.rules.specs.declared.Answer.{Answer}
 use Rattle.rules.specs.declared.Answer.the-variants.{Done, BufferShort}
@@ -83,20 +84,20 @@ module _ (ring : Ring) (memory : List ℕ) where
 -- ---- A slot that was fetched, as the rules carry it out
 
 -- what is recorded is the part of memory that the slot names: of a fault, nothing
-payload-is : (terms : Terms) (t : Tables) (memory : List ℕ) (d : Descriptor) (x : Slot) → Fetches x memory d
-    → carry terms t (handed x memory) .payload ≡ payloadOf x memory
-unfolding handed carry part
-payload-is terms t memory d x f =
+payload-is : (terms : Terms) (t : Tables) (o : Order) (memory : List ℕ) (d : Descriptor) (x : Slot) → Fetches x memory d
+    → carry terms t o (handed x memory) .payload ≡ payloadOf x memory
+unfolding handed carryBy part
+payload-is terms t o memory d x f =
     by-test (eqb (code (x .status)) 0) (λ p. rw p) (λ p. let z : x .size ≡ 0 = f .empty p in rw (p, z))
 
 module _ (s : Switch) (memory : List ℕ) (x : Slot) (f : Fetches x memory (descriptor memory (descriptorAt (commandRing (s .registers))))) where
-  pub carried-is : carriedSlot s memory ≡ carry (termsOf (s .registers)) (s .tables) (handed x memory)
-  unfolding carriedSlot
+  pub carried-is : carriedSlot s memory ≡ carry (termsOf (s .registers)) (s .tables) (s .order) (handed x memory)
+  unfolding carriedSlotBy
   carried-is = rw (f .fetched)
 
   pub record-is : slotRecord s memory ≡ recordOf (carriedSlot s memory .status) (payloadOf x memory) (commandRing (s .registers) .tail)
-  unfolding slotRecord
-  record-is = rw (carried-is, payload-is (termsOf (s .registers)) (s .tables) memory _ x f)
+  unfolding slotRecordBy
+  record-is = rw (carried-is, payload-is (termsOf (s .registers)) (s .tables) (s .order) memory _ x f)
 
   pub record-length : length (slotRecord s memory) ≡ 6 + x .size
   record-length = rw (record-is, length-record, length-part (x .size) memory (x .start) (f .fits))
@@ -124,13 +125,13 @@ module _ (ring : Ring) (memory : List ℕ) (bytes : ℕ) where
       → Takes r ring memory bytes
   take-none a q n is =
       refusing a n is
-      (λ s b e m l. unfold processRefusal in rw (e, m) (q ∙ sym (no-slot ring memory (λ z. n (q ∙ z)) _)))
+      (λ s b e m l. unfold processRefusalBy in rw (e, m) (q ∙ sym (no-slot ring memory (λ z. n (q ∙ z)) _)))
 
   module _ (there : There ring memory) (x : Slot) (f : Fetches x memory (descriptor memory (descriptorAt ring))) where
     -- what is left to ask is whether the record fits
     fitting : (s : Switch) (b : Borrowed) → commandRing (s .registers) ≡ ring → b .memory ≡ memory → length (b .buffer) ≡ bytes
         → processRefusal s b ≡ refuse (ltb bytes (6 + x .size)) 6 0
-    unfolding processRefusal bufferRefusal
+    unfolding processRefusalBy bufferRefusal
     fitting s b e m l =
         let n : length (slotRecord s memory) ≡ 6 + x .size = record-length s memory x (rw e f) in
         rw (m, n, l, e) (there .asked _)

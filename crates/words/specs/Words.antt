@@ -1,4 +1,4 @@
--- The small part of a device as a host holds it: 16 words of 64 bits. Every list of words means a device, and all words 0 one without ports:
+-- The small part of a device as a host holds it: 20 words of 64 bits. Every list of words means a device, and all words 0 one without ports:
 -- a field of 32 bits is its word's low half.
 use Prim.Native.Nat.{ℕ, _%_}
 use mathlib.Core.List.{List}
@@ -6,6 +6,7 @@ use lib.ListN.{getD}
 use Rattle.rules.specs.declared.Ring.{Ring}
 use Rattle.rules.specs.declared.Registers.{Registers}
 use Rattle.rules.specs.declared.Counts.{Counts}
+use Rattle.rules.specs.declared.Firsts.{Firsts}
 use Rattle.rules.specs.declared.Device.{Device}
 
 abbrev pub word : List ℕ → ℕ → ℕ
@@ -35,5 +36,8 @@ registersIn w ring =
 abbrev pub countsIn : List ℕ → Counts
 countsIn w = record { flows = word w 14; groups = word w 15 }
 
+abbrev pub firstsIn : List ℕ → Firsts
+firstsIn w = record { vlan = word w 16; termination = word w 17; routing = word w 18; bridging = word w 19 }
+
 unfoldable pub deviceIn : List ℕ → Device
-deviceIn w = record { registers = registersIn w (ringIn w); counts = countsIn w }
+deviceIn w = record { registers = registersIn w (ringIn w); counts = countsIn w; firsts = firstsIn w }

@@ -1,8 +1,9 @@
-// The small part of a device as 16 words of 64 bits, which is how a host in C holds it (specs/Words.antt): no field there is a bool, so
+// The small part of a device as 20 words of 64 bits, which is how a host in C holds it (specs/Words.antt): no field there is a bool, so
 // whatever the words are they mean a device.
 
 use rules::Counts;
 use rules::Device;
+use rules::Firsts;
 use rules::Registers;
 use rules::Ring;
 ghost use mathlib.Core.Path.{_≡_};
@@ -11,7 +12,7 @@ ghost use Rattle.words.specs.Words.{ringIn, registersIn, deviceIn};
 
 // ---- Out of words
 
-fn ring_of(w: [u64; 16]) -> Ring
+fn ring_of(w: [u64; 20]) -> Ring
     ensures { λ r. ⌜ r ≡ ringIn w ⌝ }
 {
     Ring {
@@ -24,7 +25,7 @@ fn ring_of(w: [u64; 16]) -> Ring
     }
 }
 
-fn registers_of(w: [u64; 16], ring: Ring) -> Registers
+fn registers_of(w: [u64; 20], ring: Ring) -> Registers
     ensures { λ r. ⌜ r ≡ registersIn w ring ⌝ }
 {
     Registers {
@@ -41,7 +42,7 @@ fn registers_of(w: [u64; 16], ring: Ring) -> Registers
 }
 
 // The device that the words mean.
-pub fn device_of(w: [u64; 16]) -> Device
+pub fn device_of(w: [u64; 20]) -> Device
     ensures { λ r. ⌜ r ≡ deviceIn w ⌝ }
 {
     Device {
@@ -49,6 +50,12 @@ pub fn device_of(w: [u64; 16]) -> Device
         counts: Counts {
             flows: w[14] as usize,
             groups: w[15] as usize,
+        },
+        firsts: Firsts {
+            vlan: w[16] as usize,
+            termination: w[17] as usize,
+            routing: w[18] as usize,
+            bridging: w[19] as usize,
         },
     }
 }
@@ -62,12 +69,13 @@ fn wide(x: u32) -> u64
 }
 
 // Words that mean the device.
-pub fn words_of(d: Device) -> [u64; 16]
+pub fn words_of(d: Device) -> [u64; 20]
     ensures { λ r. ⌜ deviceIn r ≡ d ⌝ }
 {
     let regs = d.registers;
     let ring = regs.ring;
     let counts = d.counts;
+    let firsts = d.firsts;
     let ports = wide(regs.ports);
     let enable_latch = wide(regs.enable_latch);
     let test_latch = wide(regs.test_latch);
@@ -94,5 +102,9 @@ pub fn words_of(d: Device) -> [u64; 16]
         credits,
         counts.flows as u64,
         counts.groups as u64,
+        firsts.vlan as u64,
+        firsts.termination as u64,
+        firsts.routing as u64,
+        firsts.bridging as u64,
     ]
 }

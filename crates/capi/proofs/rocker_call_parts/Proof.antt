@@ -41,7 +41,7 @@ returns-3 : tie.Need-returns-3
 unfolding asked askRefusal requestOf unlessRefused
 returns-3 c =
     let p = c .before .before .before .before in
-    rw (p .before .before .before .before .before .before .before .before .if3 .taken) (p .process-into .ensures _ _)
+    rw (p .before .before .before .before .before .before .before .before .before .if3 .taken) (p .process-into .ensures _ _)
 
 frame-into-requires : tie.Need-frame-into-requires
 frame-into-requires c κs = search needs
@@ -53,7 +53,7 @@ returns-4 : tie.Need-returns-4
 unfolding asked askRefusal requestOf unlessRefused
 returns-4 c =
     let f = c .before .before in
-    rw (f .before .before .before .before .before .before .before .if4 .taken) (f .frame-into .ensures _ _)
+    rw (f .before .before .before .before .before .before .before .before .if4 .taken) (f .frame-into .ensures _ _)
 
 rocker-header-parts-requires : tie.Need-rocker-header-parts-requires
 rocker-header-parts-requires c κs = search needs

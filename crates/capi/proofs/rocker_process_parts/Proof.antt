@@ -35,7 +35,7 @@ returns c =
     let p = b .before .before .before .before .before .before in
     λ frame list.
     let o = p .process .ensures frame list in
-    stored _ _ _ (borrowed _ frame _ list) Process (p .before .before .before .before .before .before .device-of .ensures) o (rw (b .bit-of .ensures, raised-told o, completed-told o, written-told o)) (c .store .ensures)
+    stored _ _ _ (borrowed _ frame _ list) Process (p .before .before .before .before .before .before .before .device-of .ensures) o (rw (b .bit-of .ensures, raised-told o, completed-told o, written-told o)) (c .store .ensures)
 
 pub rocker-process-parts-spec : {M : Type 1} → statement M
 rocker-process-parts-spec = tie.close (tie.spec device-of-requires process-requires cast-completion bit-of-requires store-requires same-length same-length-2 returns)

@@ -1,6 +1,6 @@
 -- `device::call` meets its contract: each arm is the call's own.
 -- Assumes nothing.
-use Rattle.rules.specs.Tables.{arrays}
+use Rattle.rules.specs.Switch.{storage}
 use Rattle.device.specs.Outcome.{borrowed}
 use borrow.Author.Needs.{needs}
 use Rattle.device.proofs.call.Statement.{statement}
@@ -54,19 +54,19 @@ returns : tie.Need-returns
 unfolding borrowed
 returns c =
     let a = c .before .before .before .before .before .before .before .before .args in
-    rw (c .before .before .request .given .1) (c .read .ensures (arrays (a .flows .now) (a .heads .now) (a .members .now)) (borrowed (a .memory .now) (a .f .now) (a .buffer .now) (a .list .now)))
+    rw (c .before .before .request .given .1) (c .read .ensures (storage (a .flows .now) (a .heads .now) (a .members .now) (a .order .now)) (borrowed (a .memory .now) (a .f .now) (a .buffer .now) (a .list .now)))
 
 returns-2 : tie.Need-returns-2
 unfolding borrowed
 returns-2 c =
     let a = c .before .before .before .before .before .before .before .before .args in
-    rw (c .before .before .request2 .given .1) (c .write .ensures (arrays (a .flows .now) (a .heads .now) (a .members .now)) (borrowed (a .memory .now) (a .f .now) (a .buffer .now) (a .list .now)))
+    rw (c .before .before .request2 .given .1) (c .write .ensures (storage (a .flows .now) (a .heads .now) (a .members .now) (a .order .now)) (borrowed (a .memory .now) (a .f .now) (a .buffer .now) (a .list .now)))
 
 returns-3 : tie.Need-returns-3
 unfolding borrowed
 returns-3 c =
     let a = c .before .before .before .before .before .before .before .before .args in
-    rw (c .before .before .request3 .given .1) (c .link .ensures (arrays (a .flows .now) (a .heads .now) (a .members .now)) (borrowed (a .memory .now) (a .f .now) (a .buffer .now) (a .list .now)))
+    rw (c .before .before .request3 .given .1) (c .link .ensures (storage (a .flows .now) (a .heads .now) (a .members .now) (a .order .now)) (borrowed (a .memory .now) (a .f .now) (a .buffer .now) (a .list .now)))
 
 same-length : tie.Need-same-length
 same-length c = search needs
@@ -76,16 +76,16 @@ same-length-2 c = search needs
 
 returns-4 : tie.Need-returns-4
 returns-4 c =
-    let a = c .before .before .before .before .before .before .before .before .before .before .before .before .before .before .before .before .args in
-    rw (c .before .before .before .before .before .before .before .before .before .before .enum-told .given .1) (c .before .before .before .before .process .ensures (a .f .now) (a .list .now))
+    let a = c .before .before .before .before .before .before .before .before .before .before .before .before .before .before .before .before .before .args in
+    rw (c .before .before .before .before .before .before .before .before .before .before .before .enum-told .given .1) (c .before .before .before .before .process .ensures (a .f .now) (a .list .now))
 
 same-length-3 : tie.Need-same-length-3
 same-length-3 c = search needs
 
 returns-5 : tie.Need-returns-5
 returns-5 c =
-    let a = c .before .before .before .before .before .before .before .before .before .before .before .before .before .before .args in
-    rw (c .before .before .before .before .before .before .before .before .request4 .given .1) (c .before .before .frame .ensures (a .memory .now) (a .buffer .now))
+    let a = c .before .before .before .before .before .before .before .before .before .before .before .before .before .before .before .args in
+    rw (c .before .before .before .before .before .before .before .before .before .request4 .given .1) (c .before .before .frame .ensures (a .memory .now) (a .buffer .now))
 
 same-length-4 : tie.Need-same-length-4
 same-length-4 c = search needs
@@ -93,7 +93,7 @@ same-length-4 c = search needs
 returns-6 : tie.Need-returns-6
 returns-6 c =
     let a = c .before .before .before .before .before .before .before .before .before .before .args in
-    rw (c .before .before .before .before .enum-told2 .given .1) (c .before .before .header .ensures (arrays (a .flows .now) (a .heads .now) (a .members .now)) (a .memory .now) (a .f .now) (a .list .now))
+    rw (c .before .before .before .before .enum-told2 .given .1) (c .before .before .header .ensures (storage (a .flows .now) (a .heads .now) (a .members .now) (a .order .now)) (a .memory .now) (a .f .now) (a .list .now))
 
 pub call-spec : {M : Type 1} → statement M
 call-spec =

@@ -1,5 +1,5 @@
 -- `device::process` meets its contract.
--- What `take` found is of the rules' command ring; refused, it is the rules' refusal, and else prepare, execute, finish and complete are its effect.
+-- What `take` found is of the rules' command ring; refused, it is the rules' refusal, and else prepare, carry out, finish and complete are its effect.
 -- Assumes nothing.
 use borrow.Author.Tests.{not-true, not-false}
 use Rattle.device.proofs.Processing.{result, process-refused, processed, still-fits}
@@ -9,7 +9,7 @@ use Rattle.device.proofs.process.Tie as tie
 use Rattle.device.proofs.process.Reads as reads
 use Rattle.device.proofs.process.Lts as lts
 use Rattle.device.proofs.answered.Reads as answered-reads
-use Rattle.execute.proofs.execute.Reads as execute-reads
+use Rattle.carrying.proofs.carry_out.Reads as carry-out-reads
 use Rattle.registers.proofs.complete.Reads as complete-reads
 use Rattle.registers.proofs.complete_raises.Reads as complete-raises-reads
 use Rattle.registers.proofs.command_ring.Reads as command-ring-reads
@@ -45,14 +45,15 @@ prepare-requires c κs =
     let t = e .before .before .take .ensures .taken (not-false _ (e .if1 .left)) in
     (t .fetches .fits, t .fits)
 
-execute-requires : tie.Need-execute-requires
-execute-requires c κs = search needs
+carry-out-requires : tie.Need-carry-out-requires
+carry-out-requires c κs = search needs
 
 finish-requires : tie.Need-finish-requires
 finish-requires c κs =
-    let e = c .before .before .before .before .before .before .before .before .before .before .before .before .before .before in
+    let p = c .before .before .before .before .before .before .before .before .before .before .before in
+    let e = p .before .before .before .before .before in
     let t = e .before .before .take .ensures .taken (not-false _ (e .if1 .left)) in
-    (t .within, still-fits (c .before .before .before .before .before .before .before .before .before .prepare .ensures) (t .fits))
+    (t .within, still-fits (p .prepare .ensures) (t .fits))
 
 complete-requires : tie.Need-complete-requires
 complete-requires c κs = search needs
@@ -60,9 +61,9 @@ complete-requires c κs = search needs
 complete-raises-requires : tie.Need-complete-raises-requires
 complete-raises-requires c κs = search needs
 
-add-t21 : tie.Need-add-t21
-add-t21 c =
-    let e = c .before .before .before .before .before .before .before .before .before .before .before .before .before .before .before .before .before .before .before .before .before .before .before in
+add-t24 : tie.Need-add-t24
+add-t24 c =
+    let e = c .before .before .before .before .before .before .before .before .before .before .before .before .before .before .before .before .before .before .before .before .before .before .before .before .before .before in
     let t = e .before .before .take .ensures .taken (not-false _ (e .if1 .left)) in
     search (needs, t .fetches .short)
 
@@ -70,17 +71,19 @@ same-length-2 : tie.Need-same-length-2
 same-length-2 c = search needs
 
 same-length-3 : tie.Need-same-length-3
-same-length-3 c = search needs
+same-length-3 c = let p = c .before .before .before .before .before .before .before .before .before .before .before .before .before .before .before .before .before .before .before .before .before in search (needs, p .prepare .kept .1 .0)
 
 returns-2 : tie.Need-returns-2
 unfolding result
 returns-2 c =
-    let e = c .before .before .before .before .before .before .before .before .before .before .before .before .before .before .before .before .before .before .before .before .before .before .before in
+    let x = c .before .before .before .before .before .before .before .before .before .before .before .before in
+    let at-prepare = x .before .before .before .before .before .before .before .before .before in
+    let e = at-prepare .before .before .before .before .before in
     let ring = e .before .before .before .before .command-ring .ensures in
     let k = rw ring at (e .before .before .take .ensures) in
-    let p = rw (c .before .before .before .before .before .before .before .before .before .before .before .before .before .before .before .before .before .before .before .terms-of .ensures) at (c .before .before .before .before .before .before .before .before .before .before .before .before .before .before .before .before .before .before .prepare .ensures) in
-    let f = rw ring at (c .before .before .before .before .before .before .before .before .finish .ensures) in
-    λ frame list. processed _ _ _ frame _ list _ k (not-false _ (e .if1 .left)) _ _ _ _ _ _ _ _ _ p (c .before .before .before .before .before .before .before .before .before .before .before .execute .ensures) f (c .before .complete-raises .ensures) (c .before .before .before .complete .ensures)
+    let p = rw (at-prepare .before .terms-of .ensures) at (at-prepare .prepare .ensures) in
+    let f = rw ring at (c .before .before .before .before .before .before .before .before .before .finish .ensures) in
+    λ frame list. processed _ _ _ frame _ list _ k (not-false _ (e .if1 .left)) _ _ _ _ _ _ _ _ _ p (x .carry-out .ensures) f (c .before .complete-raises .ensures) (c .before .before .before .before .complete .ensures)
 
 pub process-spec : {M : Type 1} → statement M
 process-spec =
@@ -93,11 +96,11 @@ process-spec =
     returns
     terms-of-requires
     prepare-requires
-    execute-requires
+    carry-out-requires
     finish-requires
     complete-requires
     complete-raises-requires
-    add-t21
+    add-t24
     same-length-2
     same-length-3
     returns-2)

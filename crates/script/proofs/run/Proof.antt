@@ -3,10 +3,10 @@ use Rattle.script.proofs.run.Statement.{statement}
 use Rattle.script.proofs.run.Tie as tie
 
 abbrev Inv-loop : tie.InvT-loop
-Inv-loop flows₀ heads₀ members₀ t₀ input₀ line₀ memory₀ buffer₀ list₀ turns₀ flows heads members t input line memory buffer list turns = Unit {0}
+Inv-loop flows₀ heads₀ members₀ order₀ t₀ input₀ line₀ memory₀ buffer₀ list₀ turns₀ flows heads members order t input line memory buffer list turns = Unit {0}
 
 abbrev μ-loop : tie.MeasureT-loop
-μ-loop flows₀ heads₀ members₀ t₀ input₀ line₀ memory₀ buffer₀ list₀ turns₀ flows heads members t input line memory buffer list turns = turns
+μ-loop flows₀ heads₀ members₀ order₀ t₀ input₀ line₀ memory₀ buffer₀ list₀ turns₀ flows heads members order t input line memory buffer list turns = turns
 
 pub run-spec : {M : Type 1} → statement M
 run-spec =

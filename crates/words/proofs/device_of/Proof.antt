@@ -17,9 +17,21 @@ array-read-t9 c = search needs
 array-read-t13 : tie.Need-array-read-t13
 array-read-t13 c = search needs
 
+array-read-t18 : tie.Need-array-read-t18
+array-read-t18 c = search needs
+
+array-read-t22 : tie.Need-array-read-t22
+array-read-t22 c = search needs
+
+array-read-t26 : tie.Need-array-read-t26
+array-read-t26 c = search needs
+
+array-read-t30 : tie.Need-array-read-t30
+array-read-t30 c = search needs
+
 returns : tie.Need-returns
 unfolding deviceIn
 returns c = rw (c .registers-of .ensures, c .before .ring-of .ensures)
 
 pub device-of-spec : {M : Type 1} → statement M
-device-of-spec = tie.close (tie.spec ring-of-requires registers-of-requires array-read-t9 array-read-t13 returns)
+device-of-spec = tie.close (tie.spec ring-of-requires registers-of-requires array-read-t9 array-read-t13 array-read-t18 array-read-t22 array-read-t26 array-read-t30 returns)
