@@ -1,0 +1,3 @@
+-- Request 2026-05: what both engines have in common, and the order that one of them keeps.
+pub mod Kept
+pub mod Claim
