@@ -29,6 +29,9 @@ PATIENCE = 120  # seconds after which a run counts as one that does not end
 # How a journal reaches replay: as FILE, or as standard input, a file or a pipe, with - and without a word.
 WAYS = ("FILE", "- < FILE", "< FILE", "- |", "|")
 
+# What the model checks of itself while it is compared, as words of its command line.
+CHECKS = []
+
 Ran = collections.namedtuple("Ran", "status out err")
 
 
@@ -122,7 +125,8 @@ def named_lines(err):
 
 # ---- What is stored beside the programs that check it
 
-STORED_SCRIPTS = ("console", "payloads_run", "frames_run", "incident_run", "worked_run", "night_run", "drivers_run", "studios_run")
+STORED_SCRIPTS = ("console", "payloads_run", "frames_run", "incident_run", "worked_run", "night_run", "drivers_run", "studios_run",
+                  "order_run")
 STORED_REGISTERS = "registers_run"
 STORED_JOURNALS = "replay_run"
 STORED_QUESTIONS = "undo_run"
@@ -188,7 +192,7 @@ def compare_side(name, mine, other, script):
 def compare_console(script, source):
     """The console and the C interface beside the model, on a script that reaches them through `source`. Gives the model's output and the
     lines that are no calls."""
-    other = run([MODEL, "console"], source)
+    other = run([MODEL, *CHECKS, "console"], source)
     compare_side("console", run([CONSOLE], source), other, script)
     compare_side("interface", run([INTERFACE], source), other, script)
     return other.out, set(named_lines(other.err))
@@ -199,7 +203,7 @@ def compare_replay(journal, way, folder):
     path = handed_over(journal, False, folder)
     words = [str(path)] if way == "FILE" else ["-"] if way[0] == "-" else []
     source = journal if way[-1] == "|" else path if "<" in way else b""
-    mine, other = run([REPLAY, *words], source), run([MODEL, "replay", str(path)])
+    mine, other = run([REPLAY, *words], source), run([MODEL, *CHECKS, "replay", str(path)])
     what = ending("replay", mine, other)
     if what is None and mine.out != other.out:
         _, a, b = first_difference(mine.out, other.out)
@@ -223,6 +227,8 @@ def options(description, number, default, meaning):
     parser.add_argument(number, metavar=number.upper(), type=int, nargs="?", default=default, help=f"{meaning} (default: {default})")
     parser.add_argument("--seed", type=int, help="the seed of the first round (default: from the clock); each next round has the next seed")
     parser.add_argument("--jobs", type=int, choices=(1, 2), default=2, help="how many rounds run at a time (default: 2)")
+    parser.add_argument("--check-order", dest="checks", action="store_const", const=["--check-order"], default=[],
+                        help="the model checks the order of its flows after every command, and its search at every frame")
     return parser
 
 

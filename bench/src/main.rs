@@ -1,11 +1,13 @@
 //! How long calls take on the proved device (through its C interface) and on the second implementation, built for release.
 
 mod payload;
+mod plain;
 
 use interface::Rocker;
 use model::device::{Calls, Device};
 use model::frame::LIST;
 use payload::{Family, FLOW_ADD, FLOW_MOD};
+use plain::Plain;
 use std::hint::black_box;
 use std::process::{Command, Stdio};
 use std::time::Instant;
@@ -173,6 +175,19 @@ impl<D: Calls> Host<D> {
         host
     }
 
+    /// 240 stations in table 50 and ten VLANs in table 10, from 11 on.
+    fn two_tables() -> Self {
+        let mut host = Self::new();
+        for station in 1..=240 {
+            let group = payload::interface_id(2 + station as u32 % 60);
+            host.ok(&payload::bridge(FLOW_ADD, station, payload::mac(station), group));
+        }
+        for vlan in 11..=20 {
+            host.ok(&payload::vlan_flow(FLOW_ADD, 240 + u64::from(vlan), vlan));
+        }
+        host
+    }
+
     fn frame(&self, yardsticks: &Yardsticks, frame: &[u8], outputs: usize) -> Measured {
         let mut list = [0; LIST];
         let (mut frames, mut scans) = (Vec::new(), Vec::new());
@@ -286,6 +301,48 @@ const CASES: [&str; 26] = [
     "frame, IPv6, last of 250 routes",
     "frame, IPv6, no route, 250 routes",
 ];
+
+/// What finds the flow that decides, on a device with 250 flows: the call for a frame, its search alone, and the plain engine's full scan.
+fn deciding() {
+    let (bridge, two_tables) = (Host::<Rocker>::bridge(), Host::<Rocker>::two_tables());
+    let rows = [
+        ("first of 247 stations in table 50", &bridge, 1, 1),
+        ("middle of 247 stations in table 50", &bridge, 124, 1),
+        ("last of 247 stations in table 50", &bridge, 247, 1),
+        ("miss in table 50, with 248 flows", &bridge, 300, 0),
+        ("miss in table 10, with 10 flows, 240 in table 50", &two_tables, 1, 0),
+    ];
+    println!("\n| the deciding flow, 250 live | frame call, ns | its search, ns | full scan, ns | scan to search |");
+    println!("|---|---|---|---|---|");
+    for (name, host, station, outputs) in rows {
+        let (call, search, scan) = finding(host, station, outputs);
+        println!("| {name} | {call:.0} | {search:.0} | {scan:.0} | {:.1} |", scan / search);
+    }
+}
+
+/// The three in turn.
+fn finding(host: &Host<Rocker>, station: u64, outputs: usize) -> (f64, f64, f64) {
+    let mac = payload::mac(station);
+    let (frame, headers) = (payload::frame(mac), payload::headers(mac));
+    let (kept, mut list) = (host.device.kept(), [0; LIST]);
+    let plain = Plain::of(&kept);
+    assert_eq!(plain::search(&kept, 1, &headers), plain.way(1, &headers), "the way of a frame");
+    assert_eq!(plain.way(1, &headers)[0] == 1, outputs > 0);
+    let (mut calls, mut searches, mut scans) = (Vec::new(), Vec::new(), Vec::new());
+    for _ in 0..501 {
+        calls.push(each(40, || {
+            let done = host.device.frame(1, black_box(&frame), &mut list);
+            assert_eq!(done, Ok(outputs), "the outputs of a frame");
+        }));
+        searches.push(each(40, || {
+            black_box(plain::search(&kept, 1, black_box(&headers)));
+        }));
+        scans.push(each(40, || {
+            black_box(plain.way(1, black_box(&headers)));
+        }));
+    }
+    (median(calls), median(searches), median(scans))
+}
 
 /// What `getrusage` gives: the processor time of user and system, each in seconds and microseconds, and 14 numbers more.
 #[repr(C)]
@@ -417,6 +474,7 @@ fn main() {
         let (seconds, rate) = (ns * RECORDS as f64 / 1e9, 1e9 / ns);
         println!("{name}: {seconds:.2} s, {rate:.0} records a second");
     }
+    deciding();
 
     println!("\n| aim | at most | measured | |");
     println!("|---|---|---|---|");

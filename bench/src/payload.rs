@@ -46,7 +46,12 @@ fn prior(kind: u16, cookie: u64, priority: u32) -> Vec<u8> {
 
 /// Frames from port 1 on the VLAN go on to table 20.
 pub fn vlan(kind: u16, cookie: u64) -> Vec<u8> {
-    let (port, vlan) = (1u32.to_le_bytes(), VLAN.to_be_bytes());
+    vlan_flow(kind, cookie, VLAN)
+}
+
+/// The same on any VLAN.
+pub fn vlan_flow(kind: u16, cookie: u64, vlan: u16) -> Vec<u8> {
+    let (port, vlan) = (1u32.to_le_bytes(), vlan.to_be_bytes());
     flow(kind, 10, cookie, 1, 20, &[tlv(6, &port), tlv(14, &vlan)])
 }
 
@@ -184,6 +189,12 @@ pub fn frame(to: [u8; 6]) -> Vec<u8> {
     bytes.extend(VLAN.to_be_bytes());
     bytes.resize(64, 0);
     bytes
+}
+
+/// What the tables look at in such a frame: MAC, address, VLAN, EtherType, and that it is long enough for an address.
+pub fn headers(to: [u8; 6]) -> [u64; 6] {
+    let mac = to.iter().rev().fold(0, |n, &byte| n << 8 | u64::from(byte));
+    [mac, 0, 0, u64::from(VLAN), 0, 1]
 }
 
 /// The same to a host of a network, by the router.

@@ -158,6 +158,20 @@ static void random_group(uint32_t head[8], uint16_t members[62])
         members[i] = (uint16_t)below(70);
 }
 
+/* The flows' places in the order of their tables, and where each table begins. In one table any flow is first. */
+static void order_by_table(struct rocker *d)
+{
+    static const uint16_t tables[6] = {0, 10, 20, 30, 50, 60};
+    unsigned slot = 0;
+    for (unsigned t = 0; t < 6; t++) {
+        if (1 <= t && t <= 4)
+            d->registers[15 + t] = slot;
+        for (unsigned k = 0; k < ROCKER_FLOWS; k++)
+            if (d->flows[k][10] == tables[t])
+                d->order[slot++] = (uint8_t)k;
+    }
+}
+
 static void random_device(struct rocker *d, uint64_t way)
 {
     random_bytes(d, sizeof *d);
@@ -177,6 +191,11 @@ static void random_device(struct rocker *d, uint64_t way)
             random_flow(d->flows[k]);
         for (unsigned k = 0; k < ROCKER_GROUPS; k++)
             random_group(d->heads[k], d->members[k]);
+        if (below(4))
+            order_by_table(d);
+        else /* any bytes, and tables that begin anywhere */
+            for (unsigned k = 16; k < 20; k++)
+                d->registers[k] = below(300);
     }
     if (way >= 3) { /* a ring that stands in memory, as it may be or nearly so; bits that no 32-bit number has */
         uint64_t *r = d->registers;
@@ -192,7 +211,7 @@ static void random_device(struct rocker *d, uint64_t way)
             r[15] = below(200);
         }
         if (below(4) == 0)
-            r[5 + below(11)] |= random_number(&seed) << 32;
+            r[5 + below(15)] |= random_number(&seed) << 32;
     }
 }
 

@@ -180,7 +180,7 @@ static void journal(const char *folder, unsigned n, unsigned long records, time_
         set(CREDITS, 4, 1);
         head = (head + 1) % SLOTS;
     }
-    /* The last two words of the registers count what is live. */
+    /* Words 14 and 15 of the registers count what is live. */
     fprintf(expected, "ports 4\nlines %lu\ncharged %lu\nflows %" PRIu64 "\ngroups %" PRIu64 "\n", made, charged, device.registers[14],
             device.registers[15]);
     CHECK(fclose(file) == 0 && fclose(expected) == 0);

@@ -3,10 +3,11 @@
 use model::device::{Calls, Worked};
 use model::registers::Refusal;
 
-type Words = [u64; 16];
+type Words = [u64; 20];
 type Flows = [[u32; 22]; 256];
 type Heads = [[u32; 8]; 128];
 type Members = [[u16; 62]; 128];
+type Order = [u8; 256];
 
 /// A device as the host holds it. Only the archive looks into it.
 #[derive(Clone)]
@@ -16,6 +17,7 @@ pub struct Rocker {
     flows: Flows,
     heads: Heads,
     members: Members,
+    order: Order,
 }
 
 // A slice is a pointer and a length; a pointer is never null, also where the length is 0.
@@ -26,6 +28,7 @@ extern "C" {
         flows: *mut Flows,
         heads: *mut Heads,
         members: *mut Members,
+        order: *mut Order,
         ports: u64,
         switch_id: u64,
     ) -> u32;
@@ -44,6 +47,7 @@ extern "C" {
         flows: *mut Flows,
         heads: *mut Heads,
         members: *mut Members,
+        order: *mut Order,
         memory: *mut u8,
         memory_length: usize,
         buffer: *mut u8,
@@ -58,6 +62,7 @@ extern "C" {
         flows: *const Flows,
         heads: *const Heads,
         members: *const Members,
+        order: *const Order,
         port: u64,
         frame: *const u8,
         frame_length: usize,
@@ -71,6 +76,27 @@ extern "C" {
         buffer_length: usize,
         bytes: *mut u64,
     ) -> u32;
+}
+
+/// What a search goes through, for who measures one alone: the flows and how many are live, their order, and where tables 10, 20, 30 and 50
+/// begin in it.
+pub struct Kept<'a> {
+    pub flows: &'a [[u32; 22]; 256],
+    pub live: usize,
+    pub order: &'a [u8; 256],
+    pub firsts: [usize; 4],
+}
+
+impl Rocker {
+    pub fn kept(&self) -> Kept<'_> {
+        let word = |i: usize| self.registers[i] as usize;
+        Kept {
+            flows: &self.flows,
+            live: word(14),
+            order: &self.order,
+            firsts: [word(16), word(17), word(18), word(19)],
+        }
+    }
 }
 
 fn answered<T>(answer: u32, done: T) -> Result<T, Refusal> {
@@ -89,10 +115,11 @@ impl Calls for Rocker {
             "the archive is of another device"
         );
         let mut d = Rocker {
-            registers: [0; 16],
+            registers: [0; 20],
             flows: [[0; 22]; 256],
             heads: [[0; 8]; 128],
             members: [[0; 62]; 128],
+            order: [0; 256],
         };
         let answer = unsafe {
             rocker_fresh_parts(
@@ -100,6 +127,7 @@ impl Calls for Rocker {
                 &mut d.flows,
                 &mut d.heads,
                 &mut d.members,
+                &mut d.order,
                 ports,
                 switch_id,
             )
@@ -133,6 +161,7 @@ impl Calls for Rocker {
                 &mut self.flows,
                 &mut self.heads,
                 &mut self.members,
+                &mut self.order,
                 memory.as_mut_ptr(),
                 memory.len(),
                 room.as_mut_ptr(),
@@ -159,6 +188,7 @@ impl Calls for Rocker {
                 &self.flows,
                 &self.heads,
                 &self.members,
+                &self.order,
                 port,
                 frame.as_ptr(),
                 frame.len(),

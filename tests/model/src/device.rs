@@ -240,6 +240,7 @@ impl Device {
         let done = self.registers.write(width, offset, value)?;
         if done.reset {
             let old = std::mem::replace(&mut self.tables, Tables::empty(self.registers.ports));
+            self.tables.order.misreset(old.order);
             match () {
                 _ if misread(L::ResetKeepsFlows) => self.tables.flows = old.flows,
                 _ if misread(L::ResetKeepsGroups) => self.tables.groups = old.groups,

@@ -1,9 +1,9 @@
 //! A frame's way through the tables to its copies.
 
 use crate::misread::{misread, Label as L};
+use crate::order;
 use crate::registers::Registers;
 use crate::tables::{id_low, id_type, id_vlan, EtherType, Flow, Group, Match, Prefix, Tables};
-use std::cmp::Reverse;
 
 /// One copy: nine numbers of 16 bits in the lent list. Both MACs are 0 where it is bridged.
 #[derive(Clone, Copy, Debug, PartialEq, Eq)]
@@ -145,8 +145,8 @@ pub fn vlan_of(frame: &[u8]) -> Option<u16> {
     })
 }
 
-/// The matching flow of the highest priority, ties going to the lower cookie.
-fn best(tables: &Tables, matches: impl Fn(&Match) -> bool) -> Option<&Flow> {
+/// The flow of a table that decides: the first match in its order.
+fn best(tables: &Tables, table: u16, matches: impl Fn(&Match) -> bool) -> Option<&Flow> {
     let passed_over = |flow: &Flow| match &flow.matching {
         _ if misread(L::DropNext) && flow.goto == 0 => true,
         Match::Bridge { group: None, .. } => misread(L::NoGroupNext),
@@ -156,7 +156,7 @@ fn best(tables: &Tables, matches: impl Fn(&Match) -> bool) -> Option<&Flow> {
         Match::Route { group: None, .. } => misread(L::RouteNoGroupNext),
         Match::Route {
             group: Some(id), ..
-        } => {
+        } if misread(L::RouteMissingGroupNext) || misread(L::RouteMissingLowerNext) => {
             let there = |id| tables.groups.contains_key(id);
             let lower = match tables.groups.get(id) {
                 Some(Group::Route { lower, .. }) => there(lower),
@@ -167,71 +167,12 @@ fn best(tables: &Tables, matches: impl Fn(&Match) -> bool) -> Option<&Flow> {
         }
         _ => false,
     };
-    let matching = || {
-        tables
-            .flows
-            .iter()
-            .filter(|(_, flow)| matches(&flow.matching) && !passed_over(flow))
-    };
-    let place = |cookie: &u64| tables.added.iter().position(|other| other == cookie);
-    let exact = |flow: &Flow| matches!(flow.matching, Match::Bridge { mac: Some(_), .. });
-    // In table 30 the longest prefix decides before all else; elsewhere there is none.
-    let length = |flow: &Flow| match &flow.matching {
-        Match::Route { prefix, .. } => prefix.length(),
-        _ => 0,
-    };
-    let in_30 = matching().any(|(_, flow)| flow.table() == 30);
-    match () {
-        _ if in_30 && misread(L::PrefixShortest) => {
-            matching().max_by_key(|(c, f)| (Reverse(length(f)), f.priority, Reverse(**c)))
-        }
-        _ if in_30 && misread(L::PriorityBeforePrefix) => {
-            matching().max_by_key(|(c, f)| (f.priority, length(f), Reverse(**c)))
-        }
-        _ if in_30 && misread(L::PrefixIgnored) => {
-            matching().max_by_key(|(c, f)| (f.priority, Reverse(**c)))
-        }
-        _ if in_30 && misread(L::PrefixThenCookie) => {
-            matching().max_by_key(|(c, f)| (length(f), Reverse(**c)))
-        }
-        _ if in_30 && misread(L::PrefixThenLowestPriority) => {
-            matching().max_by_key(|(c, f)| (length(f), Reverse(f.priority), Reverse(**c)))
-        }
-        _ if in_30 && misread(L::RouteTiesToHigherCookie) => {
-            matching().max_by_key(|(c, f)| (length(f), f.priority, **c))
-        }
-        _ if in_30 && misread(L::RouteTiesToFirstAdded) => {
-            matching().max_by_key(|(c, f)| (length(f), f.priority, Reverse(place(c))))
-        }
-        _ if in_30 && misread(L::RoutePrioritySigned) => {
-            matching().max_by_key(|(c, f)| (length(f), f.priority as i32, Reverse(**c)))
-        }
-        _ if in_30 && misread(L::PrefixByWholeBytes) => {
-            matching().max_by_key(|(c, f)| (length(f) / 8, f.priority, Reverse(**c)))
-        }
-        _ if in_30 && misread(L::PrefixUpTo32) => {
-            matching().max_by_key(|(c, f)| (length(f).min(32), f.priority, Reverse(**c)))
-        }
-        _ if in_30 => matching().max_by_key(|(c, f)| (length(f), f.priority, Reverse(**c))),
-        _ if misread(L::PriorityLowest) => matching().min_by_key(|(c, f)| (f.priority, **c)),
-        _ if misread(L::PriorityIgnored) => matching().next(),
-        _ if misread(L::PrioritySigned) => {
-            matching().max_by_key(|(c, f)| (f.priority as i32, Reverse(**c)))
-        }
-        _ if misread(L::TiesToHigherCookie) => matching().max_by_key(|(c, f)| (f.priority, **c)),
-        _ if misread(L::TiesToFirstAdded) => {
-            matching().max_by_key(|(c, f)| (f.priority, Reverse(place(c))))
-        }
-        _ if misread(L::TiesToLastAdded) => matching().max_by_key(|(c, f)| (f.priority, place(c))),
-        _ if misread(L::TiesBySignedCookie) => {
-            matching().max_by_key(|(c, f)| (f.priority, Reverse(**c as i64)))
-        }
-        _ if misread(L::Table50MacFirst) => {
-            matching().max_by_key(|(c, f)| (exact(f), f.priority, Reverse(**c)))
-        }
-        _ => matching().max_by_key(|(cookie, flow)| (flow.priority, Reverse(**cookie))),
+    let matching = |flow: &Flow| matches(&flow.matching) && !passed_over(flow);
+    if order::is_checked() {
+        order::watch(tables, table, matching);
     }
-    .map(|(_, flow)| flow)
+    let first = tables.order.first(table, matching);
+    first.map(|entry| &entry.flow)
 }
 
 /// The group that the tables choose.
@@ -245,7 +186,7 @@ enum Way {
 
 /// Whether a frame is to be routed: the deciding flow of table 20 matches it.
 fn is_routed(tables: &Tables, ingress: u32, vlan: u16, tag: u16, frame: &[u8]) -> bool {
-    let hit = best(tables, |m| match m {
+    let hit = best(tables, 20, |m| match m {
         Match::Termination {
             port,
             ethertype,
@@ -330,7 +271,7 @@ fn routed(tables: &Tables, frame: &[u8]) -> Result<Option<u32>, Bridged> {
     if dropped {
         return Ok(None);
     }
-    let hit = best(tables, |m| match m {
+    let hit = best(tables, 30, |m| match m {
         Match::Route {
             ethertype: own,
             prefix,
@@ -362,7 +303,7 @@ struct Bridged;
 /// The way of a frame, by its VLAN, through all tables.
 fn way(tables: &Tables, ingress: u32, tag: u16, frame: &[u8]) -> Option<Way> {
     let vlan = tag;
-    let first = best(tables, |m| match m {
+    let first = best(tables, 0, |m| match m {
         Match::Ingress { .. } if misread(L::Table0Ignored) => false,
         Match::Ingress { port, mask } if misread(L::MaskOnPortOnly) => ingress & mask == *port,
         Match::Ingress { port, mask } if misread(L::MaskOnFlowOnly) => ingress == port & mask,
@@ -380,7 +321,7 @@ fn way(tables: &Tables, ingress: u32, tag: u16, frame: &[u8]) -> Option<Way> {
     if first.is_some_and(|flow| flow.goto == 0) && !misread(L::Table0DropPasses) {
         return None;
     }
-    let second = best(tables, |m| match m {
+    let second = best(tables, 10, |m| match m {
         Match::Vlan { vlan: v, .. } if misread(L::Table10PortIgnored) => *v == vlan,
         Match::Vlan { port, .. } if misread(L::Table10VlanIgnored) => *port == ingress,
         Match::Vlan { port, vlan: 0, .. } if misread(L::Table10UntaggedAny) => *port == ingress,
@@ -412,7 +353,7 @@ fn way(tables: &Tables, ingress: u32, tag: u16, frame: &[u8]) -> Option<Way> {
     } else if misread(L::Table20MissDrops) {
         return None;
     }
-    let third = best(tables, |m| match m {
+    let third = best(tables, 50, |m| match m {
         Match::Bridge { vlan: v, .. } if misread(L::Table50MacIgnored) => *v == vlan,
         Match::Bridge { vlan: v, mac, .. } if misread(L::Table50SourceMac) => {
             *v == vlan && mac.is_none_or(|mac| mac[..] == frame[6..12])

@@ -1,7 +1,7 @@
 //! The commands of the second implementation.
 
 use model::undo::{self, post};
-use model::{console, generate, journal, misread};
+use model::{console, generate, journal, met, misread, order};
 use std::io::{self, Read, Write};
 use std::process::ExitCode;
 
@@ -11,6 +11,8 @@ const USAGE: &str = "usage: model [--misread LABEL] console
        model [--misread LABEL] replay-all
        model [--misread LABEL] execute
        model --list-misreadings
+       model --check-order COMMAND ..
+       model order-counts
        model generate SEED CALLS
        model generate-journal SEED
        model generate-payloads SEED COUNT
@@ -55,6 +57,18 @@ fn replay_all() -> io::Result<()> {
         rest = next;
     }
     print(out.as_bytes())
+}
+
+/// What a script of the console meets of request 2026-05, a count in each line.
+fn order_counts() -> io::Result<()> {
+    let mut script = Vec::new();
+    io::stdin().lock().read_to_end(&mut script)?;
+    let counts = met::counts(&script);
+    let lines = met::ALL.map(|key| {
+        let count = counts.get(&key).copied().unwrap_or_default();
+        format!("{} {} {count}\n", key.0, key.1)
+    });
+    print(lines.concat().as_bytes())
 }
 
 fn list_misreadings() -> io::Result<()> {
@@ -112,6 +126,9 @@ fn main() -> ExitCode {
             return ExitCode::from(2);
         }
         words.drain(..2);
+    } else if let ["--check-order", _, ..] = words[..] {
+        order::check();
+        words.remove(0);
     }
     let seeded =
         |seed: &str, count: &str| Some((console::number(seed).ok()?, console::number(count).ok()?));
@@ -132,6 +149,7 @@ fn main() -> ExitCode {
             console::run("execute", |line| execute.line(line))
         }
         ["--list-misreadings"] => list_misreadings(),
+        ["order-counts"] => order_counts(),
         ["replay-all"] => replay_all(),
         ["replay"] => replay(None),
         ["replay", file] => replay(Some(file)),

@@ -1,5 +1,5 @@
 //! Misreadings: one sentence of the build description, or of the requests
-//! 2026-02 and 2026-03, taken in another sense.
+//! 2026-02, 2026-03 and 2026-05, taken in another sense.
 //!
 //! None is chosen unless the command line names one, and `misread` is then
 //! false everywhere: what a chapter says stands beside the question. They show
@@ -769,6 +769,73 @@ labels! {
     OldType2 "versions 1 and 2 have type 2"
     OldType2Deleted "group del of type 2 is read in versions 1 and 2"
     OldType2Enotsup "type 2 is ENOTSUP in versions 1 and 2"
+
+    // Request 2026-05: "keep the flows of each table .. in the order in which they decide": adds
+    OrderAddLast "a flow that is added stands behind all of its table"
+    OrderAddFirst "a flow that is added stands before all of its table"
+    OrderAddBehindEquals "a flow that is added stands behind those of its PRIORITY and prefix"
+    OrderAddBeforeEquals "a flow that is added stands before those of its PRIORITY and prefix"
+    Order0AsAdded "the flows of table 0 stand as they were added"
+    Order10AsAdded "the flows of table 10 stand as they were added"
+    Order30AsAdded "the flows of table 30 stand as they were added"
+    Order50AsAdded "the flows of table 50 stand as they were added"
+    OrderEqualReplaced "a flow that is added takes the place of one of its PRIORITY and prefix"
+    OrderEqualEexist "an add is EEXIST where its table has a flow of its PRIORITY and prefix"
+    OrderEexistMoves "an add that is EEXIST moves the flow that is there"
+    OrderEnomemDropsLast "an add that is ENOMEM pushes the last flow out of its table's order"
+    OrderPriorityBy16Bits "the order has the low 16 bits of PRIORITY"
+    OrderCookieBy32Bits "the order has the low 32 bits of a cookie"
+    OrderByAddress "routes of one prefix length stand by address"
+
+    // Request 2026-05: "after any calls from a fresh device": mods
+    OrderModStays "a mod leaves a flow at its place in its table"
+    Order0ModStays "a mod leaves a flow at its place in table 0"
+    Order10ModStays "a mod leaves a flow at its place in table 10"
+    Order30ModStays "a mod leaves a flow at its place in table 30"
+    Order50ModStays "a mod leaves a flow at its place in table 50"
+    OrderModPriorityStays "a mod that changes PRIORITY leaves a flow at its place"
+    OrderModPrefixStays "a mod that changes the prefix length leaves a flow at its place"
+    OrderModUpStays "a mod moves no flow up"
+    OrderModDownStays "a mod moves no flow down"
+    OrderModOneStep "a mod moves a flow by one place"
+    OrderModBehindEquals "a flow that a mod moves stands behind those of its PRIORITY and prefix"
+    OrderModBeforeEquals "a flow that a mod moves stands before those of its PRIORITY and prefix"
+    OrderModSameLast "a mod that changes neither moves a flow behind those of its PRIORITY and prefix"
+    OrderModTableStays "a mod to another table leaves a flow in the order of the old one"
+    OrderModTableBoth "a mod to another table leaves the old flow in the order of the old one"
+    OrderModTableLost "a mod to another table takes a flow out of the order"
+    OrderModTableLast "a mod to another table puts a flow behind all that are there"
+    OrderModTableFirst "a mod to another table puts a flow before all that are there"
+    OrderEnoentAdds "a mod that is ENOENT puts a flow into the order"
+    OrderModFull "a mod that moves a flow is ENOMEM when the table is full"
+
+    // The same: dels and a device reset
+    OrderDelStays "a flow that is deleted stays in the order"
+    OrderDelLastFills "the last flow of a table takes the place of one that is deleted"
+    OrderDelFirstEqual "a del takes the first flow of that PRIORITY and prefix out of the order"
+    OrderDelHidesNext "the flow behind one that is deleted is not looked at"
+    OrderDelHidesRest "the flows behind one that is deleted are not looked at"
+    OrderAddOldPlace "a cookie that is deleted and added again stands where it stood"
+    OrderAddFreedPlace "a flow that is added stands where one of its table was deleted"
+    OrderResetKeeps "a device reset leaves the flows in the order"
+
+    // Request 2026-05: "so that the first match ends the search"
+    OrderLastMatch "the last match decides"
+    OrderFirstAlone "only the first flow of a table is compared"
+    OrderFirstPassedOver "the first flow of a table is not compared"
+    OrderLastPassedOver "the last flow of a table is not compared"
+    OrderHalfSearched "only the first 128 flows of a table are compared"
+    OrderHighestAlone "only the flows of a table's highest PRIORITY are compared"
+    OrderLongestAlone "only the routes of the longest prefix are compared"
+    OrderEtherTypeEnds "a search of table 30 ends where the EtherType changes"
+    OrderOfAllEnds "the flows of all tables stand in one order, and a search ends at one of another table"
+
+    // Request 2026-05: "Freed places are used again"
+    OrderPlacesOnce "a freed place is not used again"
+    OrderPlacesByTable "each table has 256 places"
+    OrderFreedByTable "a freed place is only used again by a flow of its table"
+    OrderModTablePlaceLost "a mod to another table does not free the place of before"
+    OrderResetPlacesLost "a device reset frees no places"
 }
 
 /// The forms of a command that differ in the fields they use.

@@ -1,6 +1,7 @@
 //! Flows and groups, and the commands that change them.
 
 use crate::misread::{misread, Label as L};
+use crate::order::{self, Order};
 use crate::tlv::{ends_under_8, split, Fields, Place, Version};
 use std::collections::BTreeMap;
 
@@ -262,7 +263,10 @@ fn is_vlan_but(vlan: u16, [zero, first, last, above]: [L; 4]) -> bool {
 #[derive(Clone, Debug, PartialEq, Eq)]
 pub struct Tables {
     pub ports: u32,
+    /// By cookie, in no order that decides.
     pub flows: BTreeMap<u64, Flow>,
+    /// The same flows in the order in which they decide.
+    pub order: Order,
     pub groups: BTreeMap<u32, Group>,
     /// The cookies as they were added; only misreadings look at it.
     pub added: Vec<u64>,
@@ -279,6 +283,7 @@ impl Tables {
         Tables {
             ports,
             flows: BTreeMap::new(),
+            order: Order::default(),
             groups: BTreeMap::new(),
             added: Vec::new(),
         }
@@ -299,7 +304,11 @@ impl Tables {
     /// Carries a payload out, its lengths read by a version. Any status but OK
     /// leaves the tables as they were.
     pub fn execute(&mut self, payload: &[u8], version: Version) -> Status {
-        match self.command(payload, version) {
+        let done = self.command(payload, version);
+        if order::is_checked() {
+            order::check_tables(self);
+        }
+        match done {
             Ok(()) => Status::Ok,
             Err(status) => status,
         }
@@ -386,11 +395,13 @@ impl Tables {
             }
         }
         let gone = self.flows.remove(&cookie);
+        self.order.remove(cookie);
         self.added.retain(|other| *other != cookie);
         match gone {
             None if misread(L::DelOfNoneOk) => Ok(()),
             Some(_) if misread(L::DelAll) => {
                 self.flows.clear();
+                self.order.retain(&self.flows);
                 Ok(())
             }
             gone => gone.map(|_| ()).ok_or(Status::Enoent),
@@ -425,7 +436,10 @@ impl Tables {
             _ if misread(L::GroupDelInUse) && self.flows.values().any(names) => {
                 return Err(Status::Einval)
             }
-            _ if misread(L::GroupDelDropsFlows) => self.flows.retain(|_, flow| !names(flow)),
+            _ if misread(L::GroupDelDropsFlows) => {
+                self.flows.retain(|_, flow| !names(flow));
+                self.order.retain(&self.flows);
+            }
             _ if misread(L::GroupDelDropsMembers) => {
                 for group in self.groups.values_mut() {
                     if let Group::List { members } = group {
@@ -450,7 +464,10 @@ impl Tables {
             _ if misread(L::Flows255) => 255,
             _ if misread(L::Flows257) => 257,
             _ if misread(L::FullBySum) => FLOW_LIMIT - self.groups.len(),
-            _ => FLOW_LIMIT,
+            _ => {
+                let table = fields.peek(field::TBL).map(u16::from_le_bytes);
+                self.order.limit(FLOW_LIMIT, self.flows.len(), table)
+            }
         };
         if let Some(cookie) = fields.peek(field::COOKIE).map(u64::from_le_bytes) {
             early(&self.flows, limit, action, &cookie)?;
@@ -470,13 +487,31 @@ impl Tables {
                 Action::Add => {}
             }
         }
+        match action {
+            Action::Mod
+                if misread(L::OrderModFull)
+                    && self.flows.len() >= limit
+                    && self.order.moves(cookie, &flow) =>
+            {
+                return Err(Status::Enomem)
+            }
+            Action::Add if misread(L::OrderEqualEexist) && self.order.has_equal(cookie, &flow) => {
+                return Err(Status::Eexist)
+            }
+            _ => {}
+        }
         let gone = misread(L::TimesExpire) && flow.hard_time > 0;
-        put(&mut self.flows, limit, action, cookie, flow)?;
+        if let Err(status) = put(&mut self.flows, limit, action, cookie, flow.clone()) {
+            self.order.misrefuse(cookie, &flow, status);
+            return Err(status);
+        }
+        self.order.put(cookie, flow);
         if action == Action::Add {
             self.added.push(cookie);
         }
         if gone {
             self.flows.remove(&cookie);
+            self.order.remove(cookie);
         }
         Ok(())
     }

@@ -1,10 +1,11 @@
-//! Cases from the build description, chapter by chapter, and from requests 2026-06, 2026-02 and 2026-03.
+//! Cases from the build description, chapter by chapter, and from requests 2026-06, 2026-02, 2026-03 and 2026-05.
 
 mod calls;
 mod commands;
 mod coverage;
 mod frames;
 mod lengths;
+mod order;
 mod routes;
 mod trail;
 mod undo;

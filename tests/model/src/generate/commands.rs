@@ -1298,6 +1298,20 @@ pub fn flow_fillers(rng: &mut Rng, tables: &Tables) -> Vec<Vec<u8>> {
         .collect()
 }
 
+/// The same in table 50 alone, each for a station of its own and before most flows that are there.
+pub fn stations(rng: &mut Rng, tables: &Tables) -> Vec<Vec<u8>> {
+    let missing = 256usize.saturating_sub(tables.flows.len());
+    (0..missing as u64 + 3)
+        .map(|at| {
+            let mut command = flow(rng, tables, 3, 0x1_0000 + at, 50);
+            command.fields.retain(|field| field.kind != field::GROUP_ID);
+            command.set(field::PRIORITY, 7u32.to_le_bytes());
+            command.set(field::DST_MAC, [2, 7, 0, 0, 0, at as u8]);
+            command.payload()
+        })
+        .collect()
+}
+
 /// Adds that fill the groups up, and a few more.
 pub fn group_fillers(rng: &mut Rng, tables: &Tables) -> Vec<Vec<u8>> {
     let missing = 128usize.saturating_sub(tables.groups.len());

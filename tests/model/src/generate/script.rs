@@ -24,6 +24,10 @@ const CREDIT_SEEDS: u64 = 32;
 /// in them, and there are more odd ones (`oddities`).
 const SKIPPING_SEEDS: u64 = 4;
 
+/// Seeds 6, 14, 22 and so on: flows that match the same frames are moved about,
+/// also while all places are taken (`orders`).
+const ORDER_SEEDS: u64 = 8;
+
 pub fn script(seed: u64, calls: u64) -> String {
     let mut maker = Script {
         rng: Rng::new(seed).skipping(seed.is_multiple_of(SKIPPING_SEEDS)),
@@ -33,14 +37,56 @@ pub fn script(seed: u64, calls: u64) -> String {
         limit: calls,
         next_buffer: 0,
     };
+    let ordering = seed % ORDER_SEEDS == ORDER_SEEDS - 2;
     maker.start();
     while maker.calls < calls {
-        maker.scene();
+        match ordering && maker.rng.chance(25) {
+            true => maker.orders(),
+            false => maker.scene(),
+        }
     }
     if seed % CREDIT_SEEDS == CREDIT_SEEDS - 1 {
         maker.credit_limit();
     }
     maker.out
+}
+
+/// Tables of the flows of `orders`.
+const RIVAL_TABLES: [u16; 9] = [0, 10, 10, 20, 30, 30, 30, 50, 50];
+
+/// What the flows of `orders` have in common, and the ports that they lead to.
+struct Rivals {
+    port: u32,
+    vlan: u16,
+    ethertype: EtherType,
+    to: Vec<u8>,
+    outs: Vec<u16>,
+}
+
+impl Rivals {
+    /// One for table 50, tagged and not, and one for table 30.
+    fn frames(&self) -> [Vec<u8>; 3] {
+        let tag = [&[0x81, 0], &self.vlan.to_be_bytes()[..]].concat();
+        let sender = [2, 0, 0, 0, 0, 9];
+        let header = match self.ethertype {
+            EtherType::Ipv4 => vec![0; 16],
+            EtherType::Ipv6 => vec![0; 24],
+        };
+        let ethertype = self.ethertype.bytes();
+        [
+            [&MACS[1][..], &sender, &tag, &[8, 6]].concat(),
+            [&MACS[1][..], &sender, &[8, 6]].concat(),
+            [
+                &ROUTERS[0][..],
+                &sender,
+                &tag,
+                &ethertype,
+                &header,
+                &self.to,
+            ]
+            .concat(),
+        ]
+    }
 }
 
 struct Script {
@@ -1451,6 +1497,132 @@ impl Script {
             self.call(&format!("frame {port} {}", hex(&frame)));
         }
         self.frames();
+    }
+
+    /// Flows of all tables that match the same frames, added, moved about and deleted one by one, with the frames behind each. At times all
+    /// 256 places are taken, so that every add comes to one that was freed.
+    fn orders(&mut self) {
+        if self.rng.chance(70) {
+            self.open_ports(95);
+        }
+        if self.tables().flows.len() > 230 {
+            self.thin_out();
+        }
+        let tables = self.tables();
+        let ports = u64::from(tables.ports);
+        let ethertype = ethertype(&mut self.rng);
+        let mut rivals = Rivals {
+            port: self.rng.range(1, ports) as u32,
+            vlan: vlan(&mut self.rng),
+            ethertype,
+            to: address(&mut self.rng, ethertype),
+            outs: vec![0],
+        };
+        rivals.to[0] &= 0x7f;
+        let mut payloads = self.stop(rivals.port, rivals.vlan, rivals.vlan, ROUTERS[0]);
+        for index in 0..4 {
+            rivals.outs.push(self.rng.range(0, ports) as u16);
+            let lower = group_id(0, rivals.vlan, rivals.outs[index]);
+            payloads.push(group(&mut self.rng, &tables, 7, lower).payload());
+            payloads.push(self.neighbour(index as u32, lower));
+        }
+        if self.rng.chance(60) {
+            // What else table 0 has does not drop them then.
+            let mut way = flow(&mut self.rng, &tables, 3, 0x3000, 0);
+            way.set(field::PRIORITY, [0xff; 4]);
+            way.set(field::IN_PPORT_MASK, [0; 4]);
+            way.set(field::GOTO_TBL, [10, 0]);
+            payloads.push(way.payload());
+        }
+        let cookies: Vec<u64> = (0..self.rng.range(4, 9))
+            .map(|_| cookie(&mut self.rng))
+            .collect();
+        for cookie in &cookies {
+            let table = self.rng.pick(&RIVAL_TABLES);
+            payloads.push(self.rival(&rivals, 3, *cookie, table));
+        }
+        if self.left() > 1_300 && self.rng.chance(35) {
+            let fillers = match self.rng.chance(50) {
+                true => flow_fillers(&mut self.rng, &tables),
+                false => stations(&mut self.rng, &tables),
+            };
+            payloads.extend(fillers);
+        }
+        self.run(&payloads);
+        self.drain();
+        for _ in 0..self.rng.range(8, 20) {
+            let cookie = self.rng.pick(&cookies);
+            let live = self.tables().flows.get(&cookie).map(|flow| flow.table());
+            let code = match live {
+                Some(_) => self.rng.pick(&[4, 4, 4, 4, 5, 5, 3]),
+                None => self.rng.pick(&[3, 3, 3, 4]),
+            };
+            let table = match live.filter(|_| self.rng.chance(65)) {
+                Some(table) => table,
+                None => self.rng.pick(&RIVAL_TABLES),
+            };
+            let payload = self.rival(&rivals, code, cookie, table);
+            self.run(&[payload]);
+            self.drain();
+            for frame in rivals.frames() {
+                self.call(&format!("frame {} {}", rivals.port, hex(&frame)));
+            }
+        }
+    }
+
+    /// An add, mod or del of a flow that matches the frames of `orders`.
+    fn rival(&mut self, rivals: &Rivals, code: u16, cookie: u64, table: u16) -> Vec<u8> {
+        if code == 5 {
+            let key = f(field::COOKIE, cookie.to_le_bytes());
+            return top(5, &encode(&[key], 0, 0));
+        }
+        let tables = self.tables();
+        let index = self.rng.index(rivals.outs.len() - 1);
+        let mut command = flow(&mut self.rng, &tables, code, cookie, table);
+        match table {
+            0 => {
+                command.set(field::IN_PPORT, rivals.port.to_le_bytes());
+                let goto = self.rng.pick(&[10u16, 10, 10, 0]);
+                command.set(field::GOTO_TBL, goto.to_le_bytes());
+            }
+            10 => {
+                let tag = self.rng.pick(&[0, rivals.vlan]);
+                let own = |kind: u32| kind != field::NEW_VLAN_ID;
+                command.fields.retain(|field| own(field.kind));
+                command.set(field::IN_PPORT, rivals.port.to_le_bytes());
+                command.set(field::VLAN_ID, tag.to_be_bytes());
+                if tag == 0 {
+                    let new = self.rng.pick(&[rivals.vlan, rivals.vlan, VLANS[0]]);
+                    command.set(field::NEW_VLAN_ID, new.to_be_bytes());
+                }
+            }
+            20 => {
+                command.set(field::IN_PPORT, rivals.port.to_le_bytes());
+                command.set(field::ETHERTYPE, rivals.ethertype.bytes());
+                command.set(field::DST_MAC, ROUTERS[0]);
+                command.set(field::VLAN_ID, rivals.vlan.to_be_bytes());
+            }
+            30 => {
+                let (_, width) = rivals.ethertype.pair();
+                let ones = self.rng.pick(&[0, 8, 16, 24, 24, 24, 31, 32]);
+                let prefix = Prefix {
+                    address: rivals.to.clone(),
+                    mask: mask(width, ones * width as u32 / 4),
+                };
+                let id = Some(route_id(index as u32));
+                command = self.route(cookie, rivals.ethertype, &prefix, id);
+                command.code = code;
+            }
+            _ => {
+                let id = group_id(0, rivals.vlan, rivals.outs[index]);
+                command.set(field::VLAN_ID, rivals.vlan.to_be_bytes());
+                command.set(field::DST_MAC, MACS[1]);
+                command.set(field::GROUP_ID, id.to_le_bytes());
+            }
+        }
+        let priority = self.rng.pick(&[0u32, 4, 5, 5, 5, 6, 0x8000_0005]);
+        command.set(field::PRIORITY, priority.to_le_bytes());
+        command.payload()
     }
 
     /// A payload that holds its own descriptor, whose stamp falls into it.

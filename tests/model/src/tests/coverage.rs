@@ -259,7 +259,7 @@ fn all(counts: &Counts, expected: &[u64]) {
 #[test]
 fn console_scripts_reach_every_outcome() {
     let mut seen = Seen::default();
-    for seed in 0..40 {
+    for seed in 0..48 {
         run(seed, 2_000, &mut seen);
     }
     println!("answers {:?}", seen.answers);
