@@ -30,8 +30,8 @@ use Rattle.execute.specs.Outcome.{Commands, OnGroups}
 use Rattle.execute.specs.declared.Executed.{Executed}
 use Rattle.execute.proofs.Carried.{flow-added, flow-replaced, flow-removed, refused}
 use Rattle.carrying.specs.Outcome.{Follows, AddFollowed, ModFollowed, DelFollowed, Carries}
-use Rattle.carrying.specs.declared.Kept.{Kept}
-use Rattle.carrying.specs.declared.Carried.{Carried}
+use Rattle.carrying.specs.declared.Followed.{Followed}
+use Rattle.carrying.specs.declared.CarriedOut.{CarriedOut}
 
 abbrev with-order : Arrays → List ℕ → Storage
 with-order a order = record { arrays = a; order = order }
@@ -41,8 +41,8 @@ decoding what m = record { what = what; members = m }
 
 -- ---- A command of the flow table
 
-module _ (counts : Counts) (firsts : Firsts) (a : Arrays) (m : List ℕ) (k : Kept) (rows : List (List ℕ)) (order order′ : List ℕ) where
-  abbrev of-flows : Carried
+module _ (counts : Counts) (firsts : Firsts) (a : Arrays) (m : List ℕ) (k : Followed) (rows : List (List ℕ)) (order order′ : List ℕ) where
+  abbrev of-flows : CarriedOut
   of-flows = record { status = k .status; counts = record { flows = k .count; groups = counts .groups }; firsts = k .firsts }
 
   -- what a command on the flow table promises as a payload
@@ -131,7 +131,7 @@ faulty counts firsts a order m e =
     }
 
 -- by what it asks for
-pub asked : {r : Carried} {counts : Counts} {firsts : Firsts} {s s′ : Storage} {what : Decoded} (d : Decoding) → d .what ≡ what
+pub asked : {r : CarriedOut} {counts : Counts} {firsts : Firsts} {s s′ : Storage} {what : Decoded} (d : Decoding) → d .what ≡ what
     → Carries r counts firsts s s′ (decoding what (d .members)) → Carries r counts firsts s s′ d
 asked {r} {counts} {firsts} {s} {s′} d e h =
     subst (λ (w : Decoded). Carries r counts firsts s s′ (decoding w (d .members))) (sym e) h

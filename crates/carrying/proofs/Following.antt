@@ -28,7 +28,7 @@ use Rattle.tables.specs.Commands.{Sought}
 use Rattle.tables.proofs.Slots.{take-live}
 use Rattle.tables.proofs.InPlace.{map-sought}
 use Rattle.carrying.specs.Outcome.{Follows, AddFollowed, ModFollowed, DelFollowed}
-use Rattle.carrying.specs.declared.Kept.{Kept}
+use Rattle.carrying.specs.declared.Followed.{Followed}
 
 -- ---- A status, and what goes by it
 
@@ -41,7 +41,7 @@ module _ (m n : ℕ) {status : Status} {c : ℕ} where
   count-kept : {rule : Status} → status ≡ rule → (rule ≡ Ok → ⊥) → c ≡ choose (eqb (code status) 0) m n → c ≡ n
   count-kept {rule} s not-ok e = rw (s, ne-eqb (code rule) 0 (λ z. not-ok (ok-code rule z))) at e
 
-module _ {r : Kept} {firsts : Firsts} {order : List ℕ} {rule : Status} {after : Order} where
+module _ {r : Followed} {firsts : Firsts} {order : List ℕ} {rule : Status} {after : Order} where
   done : {before : Order} {order′ : List ℕ} → rule ≡ Ok → orderIn (r .count) (r .firsts) order′ ≡ after → Follows r firsts order order′ rule before after
   unfolding code
   done ok o = record { order-is = rw ok o; kept = λ z. absurd (z ok) }
@@ -95,7 +95,7 @@ missing {rows} {count = count} {k = k} f t z =
 abbrev addsTo : List FlowEntry → FlowEntry → Status
 addsTo flows e = addStatus (holds cookieOf) maxFlows (e .cookie) flows
 
-module _ {rows : List (List ℕ)} {order : List ℕ} {firsts : Firsts} {count n at : ℕ} {held : Bool} {r : Kept} where
+module _ {rows : List (List ℕ)} {order : List ℕ} {firsts : Firsts} {count n at : ℕ} {held : Bool} {r : Followed} where
   module _ (e : FlowEntry) (f : Found rows order firsts count n at held (e .cookie)) where
     pub not-added : held || leb maxFlows n ≡ true → r .status ≡ addsTo (liveFlows count rows) e
         → r .count ≡ choose (eqb (code (r .status)) 0) (n + 1) count → r .firsts ≡ firsts → AddFollowed r firsts count rows order order e

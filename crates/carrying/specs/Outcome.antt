@@ -16,17 +16,17 @@ use Rattle.rules.specs.declared.Firsts.{Firsts}
 use Rattle.rules.specs.declared.Status.{Status}
 use Rattle.rules.specs.declared.Status.the-variants.{Ok}
 use Rattle.rules.specs.declared.Decoding.{Decoding}
-use Rattle.carrying.specs.declared.Kept.{Kept}
-use Rattle.carrying.specs.declared.Carried.{Carried}
+use Rattle.carrying.specs.declared.Followed.{Followed}
+use Rattle.carrying.specs.declared.CarriedOut.{CarriedOut}
 
 -- Of a flow command with this status: the order after it, of as many flows as are then live, is what the rules make of the one before
-pub record Follows (r : Kept) (firsts : Firsts) (order order′ : List ℕ) (rule : Status) (before after : Order) : Type 0 where
+pub record Follows (r : Followed) (firsts : Firsts) (order order′ : List ℕ) (rule : Status) (before after : Order) : Type 0 where
   pub order-is : orderIn (r .count) (r .firsts) order′ ≡ choose (eqb (code rule) 0) after before
   -- a status other than OK leaves every byte of it
   pub kept : (rule ≡ Ok → ⊥) → (r .firsts ≡ firsts) × (order′ ≡ order)
 
 -- the same of each command, on the flows in the first places of these rows, by the cookie's place among them
-module _ (r : Kept) (firsts : Firsts) (count : ℕ) (rows : List (List ℕ)) (order order′ : List ℕ) where
+module _ (r : Followed) (firsts : Firsts) (count : ℕ) (rows : List (List ℕ)) (order order′ : List ℕ) where
   abbrev pub AddFollowed : FlowEntry → Type 0
   AddFollowed e =
       let flows = liveFlows count rows in
@@ -46,7 +46,7 @@ module _ (r : Kept) (firsts : Firsts) (count : ℕ) (rows : List (List ℕ)) (or
       Follows r firsts order order′ (heldStatus (holds cookieOf) k flows) o (orderDeleted flows (position cookieOf k flows) o)
 
 -- Of a payload on what the counts, the first slots and the arrays a hold: the rules' status, and their tables and order in the arrays a′
-pub record Carries (r : Carried) (counts : Counts) (firsts : Firsts) (a a′ : Storage) (d : Decoding) : Type 0 where
+pub record Carries (r : CarriedOut) (counts : Counts) (firsts : Firsts) (a a′ : Storage) (d : Decoding) : Type 0 where
   pub status-is : r .status ≡ carryOut (tablesOf counts (a .arrays)) d .status
   pub tables-are : tablesOf (r .counts) (a′ .arrays) ≡ carryOut (tablesOf counts (a .arrays)) d .tables
   pub order-is : orderIn (r .counts .flows) (r .firsts) (a′ .order)

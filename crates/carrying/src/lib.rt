@@ -28,14 +28,14 @@ ghost use Rattle.tables.specs.Commands.{Added, Modded, Deleted};
 ghost use Rattle.carrying.specs.Outcome.{AddFollowed, ModFollowed, DelFollowed, Carries};
 
 // A flow command's status, the number of live flows after it, and where tables begin in their order.
-pub struct Kept {
+pub struct Followed {
     pub status: Status,
     pub count: usize,
     pub firsts: Firsts,
 }
 
 // What carrying a payload out gives: its status, and the small part of the tables after it.
-pub struct Carried {
+pub struct CarriedOut {
     pub status: Status,
     pub counts: Counts,
     pub firsts: Firsts,
@@ -98,7 +98,7 @@ fn flow_add(
     count: usize,
     firsts: Firsts,
     e: FlowEntry,
-) -> Kept
+) -> Followed
     requires { ⌜ length (now order) ≡ maxFlows ⌝ }
     ensures { λ r. ⌜ Added (live entryIn) cookieOf maxFlows (places count (now (rows .entry))) e (r .status) (places (r .count) (now (rows .exit))) × AddFollowed r firsts count (now (rows .entry)) (now (order .entry)) (now (order .exit)) e ⌝ }
 {
@@ -107,7 +107,7 @@ fn flow_add(
     if p.held | (MAX_FLOWS <= n) {
         let c = tables::flow_add_at(rows, count, p, e);
         let status = c.status;
-        return Kept {
+        return Followed {
             status: status,
             count: c.count,
             firsts: firsts,
@@ -116,7 +116,7 @@ fn flow_add(
     let more = put_in(rows, n, order, p.at, firsts, e);
     let c = tables::flow_add_at(rows, count, p, e);
     let status = c.status;
-    Kept {
+    Followed {
         status: status,
         count: c.count,
         firsts: more,
@@ -129,7 +129,7 @@ fn flow_mod(
     count: usize,
     firsts: Firsts,
     e: FlowEntry,
-) -> Kept
+) -> Followed
     requires { ⌜ length (now order) ≡ maxFlows ⌝ }
     ensures { λ r. ⌜ Modded (live entryIn) cookieOf maxFlows (places count (now (rows .entry))) e (r .status) (places (r .count) (now (rows .exit))) × ModFollowed r firsts count (now (rows .entry)) (now (order .entry)) (now (order .exit)) e ⌝ }
 {
@@ -138,7 +138,7 @@ fn flow_mod(
         let moved = ranked(rows, p.live, order, p.at, firsts, e);
         let c = tables::flow_mod_at(rows, count, p, e);
         let status = c.status;
-        return Kept {
+        return Followed {
             status: status,
             count: c.count,
             firsts: moved,
@@ -146,7 +146,7 @@ fn flow_mod(
     }
     let c = tables::flow_mod_at(rows, count, p, e);
     let status = c.status;
-    Kept {
+    Followed {
         status: status,
         count: c.count,
         firsts: firsts,
@@ -159,7 +159,7 @@ fn flow_del(
     count: usize,
     firsts: Firsts,
     cookie: u64,
-) -> Kept
+) -> Followed
     requires { ⌜ length (now order) ≡ maxFlows ⌝ }
     ensures { λ r. ⌜ Deleted (live entryIn) cookieOf maxFlows (places count (now (rows .entry))) cookie (r .status) (places (r .count) (now (rows .exit))) × DelFollowed r firsts count (now (rows .entry)) (now (order .entry)) (now (order .exit)) cookie ⌝ }
 {
@@ -168,7 +168,7 @@ fn flow_del(
         let less = taken_out(rows, p.live, order, p.at, firsts);
         let c = tables::flow_del_at(rows, count, p, cookie);
         let status = c.status;
-        return Kept {
+        return Followed {
             status: status,
             count: c.count,
             firsts: less,
@@ -176,7 +176,7 @@ fn flow_del(
     }
     let c = tables::flow_del_at(rows, count, p, cookie);
     let status = c.status;
-    Kept {
+    Followed {
         status: status,
         count: c.count,
         firsts: firsts,
@@ -186,12 +186,12 @@ fn flow_del(
 // ---- Any payload
 
 // A command of the flow table: the groups' count stays.
-fn of_flows(k: Kept, counts: Counts) -> Carried
+fn of_flows(k: Followed, counts: Counts) -> CarriedOut
     ensures { λ r. ⌜ r ≡ record { status = k .status; counts = record { flows = k .count; groups = counts .groups }; firsts = k .firsts } ⌝ }
 {
     let status = k.status;
     let firsts = k.firsts;
-    Carried {
+    CarriedOut {
         status: status,
         counts: Counts {
             flows: k.count,
@@ -202,12 +202,12 @@ fn of_flows(k: Kept, counts: Counts) -> Carried
 }
 
 // A command of the group table: the order stays.
-fn of_groups(x: Executed, firsts: Firsts) -> Carried
+fn of_groups(x: Executed, firsts: Firsts) -> CarriedOut
     ensures { λ r. ⌜ r ≡ record { status = x .status; counts = x .counts; firsts = firsts } ⌝ }
 {
     let status = x.status;
     let counts = x.counts;
-    Carried {
+    CarriedOut {
         status: status,
         counts: counts,
         firsts: firsts,
@@ -223,7 +223,7 @@ fn command(
     heads: &mut GroupHeads,
     members: &mut GroupMembers,
     order: &mut FlowOrder,
-) -> Carried
+) -> CarriedOut
     requires { ⌜ length (now order) ≡ maxFlows ⌝ }
     ensures { λ r. ⌜ Carries r counts firsts (storage (now (flows .entry)) (now (heads .entry)) (now (members .entry)) (now (order .entry))) (storage (now (flows .exit)) (now (heads .exit)) (now (members .exit)) (now (order .exit))) (record { what = Carry c; members = m }) ⌝ }
 {
@@ -260,7 +260,7 @@ pub fn carry_out(
     heads: &mut GroupHeads,
     members: &mut GroupMembers,
     order: &mut FlowOrder,
-) -> Carried
+) -> CarriedOut
     ensures { λ r. ⌜ Carries r counts firsts (storage (now (flows .entry)) (now (heads .entry)) (now (members .entry)) (now (order .entry))) (storage (now (flows .exit)) (now (heads .exit)) (now (members .exit)) (now (order .exit))) d ⌝ }
 {
     let all = &order[..];
@@ -268,7 +268,7 @@ pub fn carry_out(
     let m = d.members;
     match what {
         Decoded::Carry(c) => command(c, m, counts, firsts, flows, heads, members, order),
-        Decoded::Refused(status) => Carried {
+        Decoded::Refused(status) => CarriedOut {
             status: status,
             counts: counts,
             firsts: firsts,

@@ -28,7 +28,7 @@ use Rattle.rules.specs.declared.Status.the-variants.{Ok}
 use Rattle.rules.proofs.Bytes.{splice-no-shorter}
 use Rattle.rules.proofs.Cases.{not-both}
 use Rattle.carrying.specs.Outcome.{Carries}
-use Rattle.carrying.specs.declared.Carried.{Carried}
+use Rattle.carrying.specs.declared.CarriedOut.{CarriedOut}
 use Rattle.slot.specs.Fetching.{payloadOf}
 use Rattle.slot.specs.Taking.{Takes}
 use Rattle.slot.specs.Completing.{Prepares, Finishes}
@@ -72,7 +72,7 @@ module _ (d : Device) (a : Storage) (memory frame buffer list : List ℕ) where
         outcome-refused d a here Process (r .answer) refusal-is
         (λ z. not-both (sym (t .ready-is ∙ eq-eqb _ _ (refusal-is ∙ z)) ∙ n))
 
-    module _ (ready : r .ready ≡ true) (q : Decoding) (x : Carried) (a′ : Storage) (completed : ℕ) (between memory′ buffer′ : List ℕ)
+    module _ (ready : r .ready ≡ true) (q : Decoding) (x : CarriedOut) (a′ : Storage) (completed : ℕ) (between memory′ buffer′ : List ℕ)
         (raises : Bool) (next : Registers)
         (p : Prepares q (r .slot) (termsOf (d .registers)) memory buffer between)
         (e : Carries x (d .counts) (d .firsts) a a′ q)

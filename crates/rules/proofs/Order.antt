@@ -23,11 +23,11 @@ use Rattle.rules.proofs.PointTable.{Point, point, all}
 
 -- ---- Commands, one after another, by an engine
 
-record Kept : Type 0 where
+record State : Type 0 where
   tables : Tables
   order : Order
 
-done : Engine → List Command → Kept → Kept
+done : Engine → List Command → State → State
 done e [] k = k
 done e (c ∷ cs) k =
     done e cs
@@ -36,7 +36,7 @@ done e (c ∷ cs) k =
       order = e .follows (k .tables .flows) c (k .order);
     })
 
-from : Engine → List Command → Kept
+from : Engine → List Command → State
 from e cs = done e cs (record { tables = emptyTables; order = noOrder })
 
 flow : ℕ → ℕ → Match → Flow
