@@ -1,52 +1,52 @@
--- The powers of two that a ring size may be, as a match tells them.
+-- Powers of two by the count of their ones.
 -- Assumes nothing.
-use Prim.Native.Nat.{ℕ, zero, suc, _+_, _≤_, _<_, _^_}
-use mathlib.Core.Path.{_≡_, refl}
-use mathlib.Core.Bool.{Bool, true, false, _||_}
-use mathlib.Core.Logic.{_⊎_, inl, inr}
+use Prim.Native.Nat.{ℕ, zero, suc, _+_, _-_, _*_, _≤_, _<_, _^_}
+use mathlib.Core.Path.{_≡_, ap, _∙_}
+use mathlib.Core.Bool.{true, _&&_}
 use native.Mathlib.Omega.{arith}
-use lib.Dec.{eqb}
-use borrow.Author.Tests.{eq-eqb, ne-eqb}
-use Rattle.rules.proofs.Cases.{by-le}
+use native.Mathlib.Nat.{pow-suc}
+use lib.Dec.{leb, eqb}
+use lib.Pow.{pow-pos}
+use lib.Count.{ones, ones-cat}
+use borrow.Author.Tests.{eq-eqb, ne-eqb, le-leb, lt-leb}
+use Rattle.rules.proofs.Cases.{by-lt, by-le, by-order, gt-eqb}
 use Rattle.rules.specs.Ring.{powerUpTo}
 
--- the number is one of 2 ^ i and the n powers after it
-abbrev pub Power : ℕ → ℕ → ℕ → Type 0
-Power zero i v = v ≡ 2 ^ i
-Power (suc n) i v = (v ≡ 2 ^ i) ⊎ Power n (suc i) v
+-- the highest one of a number, and those below it
+highest : (k v : ℕ) → 2 ^ k ≤ v → v < 2 ^ suc k → ones v ≡ 1 + ones (v - 2 ^ k)
+unfolding ones
+highest k v a b =
+    let e : v ≡ 1 * 2 ^ k + (v - 2 ^ k) = omega arith in
+    ap ones e ∙ ones-cat k 1 (v - 2 ^ k) (omega (arith, pow-suc 2 k))
 
-listed : (n i j v : ℕ) → i ≤ j → j ≤ i + n → v ≡ 2 ^ j → Power n i v
-listed zero i j v a b e = let q : j ≡ i = omega arith in rw q at e
-listed (suc n) i j v a b e =
-    by-le j i
-    (λ h p′. let q : j ≡ i = omega arith in inl (rw q at e))
-    (λ h p′. inr (listed n (suc i) j v (omega arith) (omega arith) e))
+-- a number that is not 0 has a one
+some : (k v : ℕ) → 0 < v → v < 2 ^ k → 0 < ones v
+some zero v a b = absurd (omega arith)
+some (suc k) v a b = by-lt v (2 ^ k) (λ h p. some k v a h) (λ h p. omega (arith, highest k v h b))
 
-or-true : (a : Bool) {b : Bool} → b ≡ true → (a || b) ≡ true
-or-true true e = refl
-or-true false e = e
+-- between two powers it has more than one
+several : (k v : ℕ) → 2 ^ k < v → v < 2 ^ suc k → 1 < ones v
+several k v a b =
+    omega (arith, highest k v (omega arith) b, some k (v - 2 ^ k) (omega arith) (omega (arith, pow-suc 2 k)))
 
-is-power : (k i v : ℕ) → 0 < i → i ≤ k → v ≡ 2 ^ i → powerUpTo k v ≡ true
+-- a power has a single one
+single : (k : ℕ) → ones (2 ^ k) ≡ 1
+unfolding ones
+single k =
+    let z : 2 ^ k - 2 ^ k ≡ 0 = omega arith in
+    highest k (2 ^ k) (omega arith) (omega (arith, pow-pos k, pow-suc 2 k)) ∙ ap (λ (x : ℕ). 1 + ones x) z
+
+-- a power of two from 2 to 2 ^ k is a number of this range with a single one
+pub power-by-count : (k v : ℕ) → powerUpTo k v ≡ ((leb 2 v && leb v (2 ^ k)) && eqb (ones v) 1)
 unfolding powerUpTo
-is-power zero i v a b e = absurd (omega arith)
-is-power (suc k) i v a b e =
-    by-le i k
-    (λ h p′. or-true (eqb v (2 ^ suc k)) (is-power k i v a h e))
-    (λ h p′. let q : i ≡ suc k = omega arith in rw (eq-eqb v (2 ^ suc k) (rw q at e)))
-
-power-from : (n i k v : ℕ) → 0 < i → i + n ≤ k → Power n i v → powerUpTo k v ≡ true
-power-from zero i k v a b e = is-power k i v a (omega arith) e
-power-from (suc n) i k v a b (inl e) = is-power k i v a (omega arith) e
-power-from (suc n) i k v a b (inr p) = power-from n (suc i) k v (omega arith) (omega arith) p
-
-none : (k v : ℕ) → ((i : ℕ) → 0 < i → i ≤ k → v ≡ 2 ^ i → ⊥) → powerUpTo k v ≡ false
-unfolding powerUpTo
-none zero v h = refl
-none (suc k) v h =
-    rw (ne-eqb v (2 ^ suc k) (h (suc k) (omega arith) (omega arith)), none k v (λ i a b. h i a (omega arith)))
-
-pub power : (v : ℕ) → Power 15 1 v → powerUpTo 16 v ≡ true
-power v p = power-from 15 1 16 v (omega arith) (omega arith) p
-
-pub no-power : (v : ℕ) → (Power 15 1 v → ⊥) → powerUpTo 16 v ≡ false
-no-power v h = none 16 v (λ i a b e. h (listed 15 1 i v a b e))
+power-by-count zero v = by-le 2 v (λ h p. simp (p, lt-leb v 1 (omega arith))) (λ h p. simp p)
+power-by-count (suc k) v =
+    let d = pow-suc 2 k in
+    by-le v (2 ^ k)
+    (λ h p. simp (power-by-count k v, ne-eqb v (2 ^ suc k) (omega (arith, pow-pos k, d)), p, le-leb v (2 ^ suc k) (omega (arith, d))))
+    (λ h p.
+    let t : leb 2 v ≡ true = le-leb 2 v (omega (arith, pow-pos k)) in
+    by-order v (2 ^ suc k)
+    (λ g q r. simp (power-by-count k v, t, p, r, le-leb v (2 ^ suc k) (omega arith), gt-eqb (ones v) 1 (several k v h g)))
+    (λ e q r. simp (t, r, le-leb v (2 ^ suc k) (omega arith), eq-eqb (ones v) 1 (ap ones e ∙ single (suc k))))
+    (λ g q r. simp (power-by-count k v, t, p, r, lt-leb v (2 ^ suc k) g)))

@@ -77,29 +77,11 @@ fn write_base(r: Ring, v: u64) -> RingWritten
     accepted(next, false)
 }
 
-// A power of two from 2 to 65,536.
+// A power of two from 2 to 65,536: one bit of it is set, and it lies in that range.
 fn is_size(v: u32) -> bool
     ensures { λ b. ⌜ b ≡ powerUpTo 16 v ⌝ }
 {
-    match v {
-        2
-        | 4
-        | 8
-        | 16
-        | 32
-        | 64
-        | 128
-        | 256
-        | 512
-        | 1024
-        | 2048
-        | 4096
-        | 8192
-        | 16384
-        | 32768
-        | 65536 => true,
-        _ => false,
-    }
+    (2 <= v) & (v <= 65536) & (u32::count_ones(v) == 1)
 }
 
 fn write_size(r: Ring, v: u32) -> RingWritten
