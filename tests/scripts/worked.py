@@ -60,13 +60,13 @@ def the_table(s):
     s.note("P8, P9: 9 credits. A write of 6 leaves some, so vector 0 is raised; of 3 then 4 are too many, and 3 leave none.")
     s.add("write 4 0x1018 6", "read 4 0x1018", "write 4 0x1018 4", "read 4 0x1018", "write 4 0x1018 0", "write 4 0x1018 3", "read 4 0x1018",
           "write 4 0x1018 0")
-    s.note("P5, P6: SIZE 65,536 is taken, 3 is not; nor are 0, 1 and 131,072. A refused one leaves HEAD, TAIL and SIZE.")
+    s.note("P5, P6: SIZE 65,536 is taken, 3 is not; nor are 0, 1 and 131,072. A refused one leaves HEAD, TAIL, SIZE and CREDITS.")
     s.add("write 4 0x100c 2", "work 6")
     for size in (3, 0, 1, 131072):
         s.add(f"write 4 0x1008 {size}")
-    s.reads(0x1008, 0x100C, 0x1010)
+    s.reads(0x1008, 0x100C, 0x1010, 0x1018)
     s.add("write 4 0x1008 65536")
-    s.reads(0x1008, 0x100C, 0x1010)
+    s.reads(0x1008, 0x100C, 0x1010, 0x1018)
     s.add("write 4 0x1008 2", "read 4 0x1008")
     s.note("P7: TEST_REG shows twice the value in 32 bits. A write at 0x0000 does nothing, to it neither.")
     s.add("write 4 0x10 0x80000001", "read 4 0x10", "write 4 0 5", "read 4 0x10", "write 8 8 6", "read 4 0x10")

@@ -106,6 +106,9 @@ fn payload(memory: &[u8], descriptor: &[u8]) -> Result<Vec<u8>, Status> {
     match () {
         _ if misread(L::EmsgsizeBeforeEinval) && long => return Err(Status::Emsgsize),
         _ if misread(L::TlvSizeEqualRefused) && tlv_size == buf_size => return Err(Status::Einval),
+        _ if misread(L::BufSizeCounted) && buf_size.count_ones() != 1 => {
+            return Err(Status::Einval)
+        }
         _ => {}
     }
     if tlv_size > buf_size {

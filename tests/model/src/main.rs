@@ -13,6 +13,7 @@ const USAGE: &str = "usage: model [--misread LABEL] console
        model --list-misreadings
        model --check-order COMMAND ..
        model order-counts
+       model size-counts
        model generate SEED CALLS
        model generate-journal SEED
        model generate-payloads SEED COUNT
@@ -59,15 +60,16 @@ fn replay_all() -> io::Result<()> {
     print(out.as_bytes())
 }
 
-/// What a script of the console meets of request 2026-05, a count in each line.
-fn order_counts() -> io::Result<()> {
+/// What a script of the console meets of a request, a count in each line.
+fn met_counts(counts: fn(&[u8]) -> met::Counts, all: &[(&'static str, u32)]) -> io::Result<()> {
     let mut script = Vec::new();
     io::stdin().lock().read_to_end(&mut script)?;
-    let counts = met::counts(&script);
-    let lines = met::ALL.map(|key| {
-        let count = counts.get(&key).copied().unwrap_or_default();
-        format!("{} {} {count}\n", key.0, key.1)
-    });
+    let counts = counts(&script);
+    let count = |key| counts.get(key).copied().unwrap_or_default();
+    let lines: Vec<String> = all
+        .iter()
+        .map(|key| format!("{} {} {}\n", key.0, key.1, count(key)))
+        .collect();
     print(lines.concat().as_bytes())
 }
 
@@ -149,7 +151,8 @@ fn main() -> ExitCode {
             console::run("execute", |line| execute.line(line))
         }
         ["--list-misreadings"] => list_misreadings(),
-        ["order-counts"] => order_counts(),
+        ["order-counts"] => met_counts(met::counts, &met::ALL),
+        ["size-counts"] => met_counts(met::sizes, &met::all_sizes()),
         ["replay-all"] => replay_all(),
         ["replay"] => replay(None),
         ["replay", file] => replay(Some(file)),

@@ -1,13 +1,15 @@
-//! How often a script meets what request 2026-05 is about: mods that move a
-//! flow, ties that the cookie decides, and adds to a place that was freed.
+//! How often a script meets what two requests are about: 2026-05, mods that move
+//! a flow, ties that the cookie decides, and adds to a place that was freed;
+//! 2026-04, SIZEs by the ones that they have.
 
-use crate::console::Console;
+use crate::console::{number, Console};
 use crate::order;
 use crate::tables::{field, Flow, Match, Tables, FLOW_LIMIT};
 use std::collections::BTreeMap;
 
 /// What is counted, with a number: the field by which a mod moves a flow, the
-/// table of a tie, the flows that are live again after a del and an add.
+/// table of a tie, the flows that are live again after a del and an add; of SIZEs
+/// see `sized`.
 pub type Counts = BTreeMap<(&'static str, u32), u64>;
 
 pub const ALL: [(&str, u32); 9] = [
@@ -66,6 +68,65 @@ pub fn counts(script: &[u8]) -> Counts {
                 freed = false;
             }
             _ => {}
+        }
+    }
+    counts
+}
+
+/// The SIZEs that are taken, and what is told of the others.
+pub fn all_sizes() -> Vec<(&'static str, u32)> {
+    let refused = [("ones", 0), ("ones", 2), ("ones", 3)];
+    let outside = [("below", 1), ("above", 1), ("above", 2)];
+    let dropped = [("dropped", 0), ("dropped", 2)];
+    let taken = (1..=16).map(|bit| ("size", 1 << bit));
+    let others = [&refused[..], &outside, &dropped].concat();
+    taken.chain(others).collect()
+}
+
+/// What a write of SIZE shows, by the number handed in and its answer: a SIZE that
+/// is taken; of one that is refused its ones, 3 within the range and 2 above it
+/// standing for more too. Ones above bit 31 are told of with the answer, where a
+/// SIZE is taken without them, or refused though all 64 bits have a single one.
+fn sized(handed: u64, answer: u32) -> Vec<(&'static str, u32)> {
+    let (size, ones) = (handed as u32, (handed as u32).count_ones());
+    let mut told = vec![match size {
+        _ if answer == 0 => ("size", size),
+        0 => ("ones", 0),
+        1 => ("below", 1),
+        2..=65_536 => ("ones", ones.min(3)),
+        _ => ("above", ones.min(2)),
+    }];
+    if handed >> 32 != 0 && (answer == 0 || handed.count_ones() == 1) {
+        told.push(("dropped", answer));
+    }
+    told
+}
+
+/// The number that a line hands to SIZE in 4 bytes.
+fn handed_to_size(line: &[u8]) -> Option<u64> {
+    let words: Vec<&str> = std::str::from_utf8(line).ok()?.split(' ').collect();
+    let ["write", width, offset, value] = words[..] else {
+        return None;
+    };
+    match (number(width), number(offset)) {
+        (Ok(4), Ok(0x1008)) => number(value).ok(),
+        _ => None,
+    }
+}
+
+/// Carries a script out and looks at its SIZEs.
+pub fn sizes(script: &[u8]) -> Counts {
+    let (mut counts, mut console) = (Counts::new(), Console::default());
+    for line in script.split(|byte| *byte == b'\n') {
+        let Ok(Some(told)) = console.line(line) else {
+            continue;
+        };
+        let answer = told.split(' ').next().and_then(|word| word.parse().ok());
+        let (Some(handed), Some(answer)) = (handed_to_size(line), answer) else {
+            continue;
+        };
+        for what in sized(handed, answer) {
+            *counts.entry(what).or_default() += 1;
         }
     }
     counts

@@ -1,5 +1,5 @@
 //! Misreadings: one sentence of the build description, or of the requests
-//! 2026-02, 2026-03 and 2026-05, taken in another sense.
+//! 2026-02, 2026-03, 2026-04 and 2026-05, taken in another sense.
 //!
 //! None is chosen unless the command line names one, and `misread` is then
 //! false everywhere: what a chapter says stands beside the question. They show
@@ -769,6 +769,43 @@ labels! {
     OldType2 "versions 1 and 2 have type 2"
     OldType2Deleted "group del of type 2 is read in versions 1 and 2"
     OldType2Enotsup "type 2 is ENOTSUP in versions 1 and 2"
+
+    // Request 2026-04: "one count of the ones"
+    SizeTwoOnes "two ones within the range are a SIZE, too"
+    SizeOddOnes "any odd count of ones within the range is a SIZE"
+    SizeOneRun "ones that stand together count as one"
+    SizeOneInEachByte "the ones of each byte of SIZE are counted alone"
+    SizeLessOneCounted "the ones of SIZE less one are counted"
+    SizeZerosCounted "the zeros of SIZE are counted"
+    SizeCountedOnce "once there is a SIZE the range alone is tested"
+    SizeEven "any even number within the range is a SIZE"
+
+    // Request 2026-04: "and a range test"
+    SizeAnyPower "any power of two is a SIZE"
+    SizePowersAbove "powers of two above 65,536 are SIZEs"
+    SizeAtMostOne "any number up to 65,536 that has at most one 1 is a SIZE"
+    SizeCountOrRange "either of the count and the range is enough"
+    SizeBy16Bits "SIZE is taken by its low 16 bits"
+    SizeBy17Bits "SIZE is taken by its low 17 bits"
+    SizeBy64Bits "SIZE is tested with all bits of the number handed in"
+    SizeToNearestEnd "a power of two outside the range becomes the end next to it"
+
+    // Request 2026-04: "Same answers"
+    SizeRoundedDown "a SIZE within the range is rounded down to a power of two"
+    SizeRoundedUp "a SIZE within the range is rounded up to a power of two"
+    SizeRefusedBy1 "a SIZE that is not allowed gets answer 1"
+    SizeCountRefusedBy1 "a SIZE of another count than one gets answer 1"
+    RefusedSizeDone "a SIZE that is not allowed gets answer 0 and does nothing"
+
+    // Request 2026-04: "nothing else moves"
+    SizeIsCount "SIZE shows the count"
+    SizeKeepsBoth "SIZE leaves HEAD and TAIL"
+    RefusedSizeWritten "a refused SIZE is written all the same"
+    RefusedSizeDropsHold "a refused SIZE clears the hold of BASE_ADDR"
+    RefusedSizeDropsCredits "a refused SIZE zeroes CREDITS"
+    HeadCounted "HEAD has one 1, too"
+    BaseCounted "BASE_ADDR has one 1, too"
+    BufSizeCounted "a BUF_SIZE that has not one 1 is EINVAL"
 
     // Request 2026-05: "keep the flows of each table .. in the order in which they decide": adds
     OrderAddLast "a flow that is added stands behind all of its table"

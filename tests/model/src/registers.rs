@@ -1,6 +1,7 @@
 //! The register space: which accesses are allowed, what they show and do.
 
 use crate::misread::{cut_if, misread, Label as L};
+use std::ops::RangeInclusive;
 
 /// Why a call of the device was refused; the number is the answer.
 #[derive(Clone, Copy, Debug, PartialEq, Eq)]
@@ -190,12 +191,30 @@ impl Ring {
                 _ if misread(L::HeadAtSize) && new == self.size => return true,
                 _ if misread(L::HeadNeverBack) && new < self.head => return false,
                 _ if misread(L::HeadSameRefused) && new == self.head => return false,
+                _ if misread(L::HeadCounted) && new.count_ones() != 1 => return false,
                 _ => {}
             }
         } else if misread(L::HeadWithoutSize) && new == 0 {
             return true;
         }
         new < self.size && self.outstanding() + self.distance(self.head, new) < self.size
+    }
+
+    /// A SIZE that is not allowed gets answer 2, and nothing moves.
+    fn refused_size(&mut self, value: u32) -> Result<Written, Refusal> {
+        match () {
+            _ if misread(L::RefusedSizeMovesHead) => (self.head, self.tail) = (0, 0),
+            _ if misread(L::RefusedSizeWritten) => self.size = value,
+            _ if misread(L::RefusedSizeDropsHold) => self.base.hold = 0,
+            _ if misread(L::RefusedSizeDropsCredits) => self.credits = 0,
+            _ if misread(L::RefusedSizeDone) => return Ok(Written::default()),
+            _ if misread(L::SizeRefusedBy1) => return Err(Refusal::Access),
+            _ if misread(L::SizeCountRefusedBy1) && value.count_ones() != 1 => {
+                return Err(Refusal::Access)
+            }
+            _ => {}
+        }
+        Err(Refusal::Value)
     }
 }
 
@@ -358,6 +377,9 @@ impl Registers {
                 self.ports = half.clamp(1, 62)
             }
             Word::Narrow(Narrow::Tail) if misread(L::TailWritten) => self.ring.tail = half,
+            Word::Narrow(Narrow::Size) if misread(L::SizeBy64Bits) && value >> 32 != 0 => {
+                return Err(Refusal::Value)
+            }
             Word::Lower(Wide::LinkStatus) if misread(L::LinkStatusWritten) => self.links = value,
             Word::Lower(Wide::SwitchId) if misread(L::SwitchIdWritten) => self.switch_id = value,
             _ => {}
@@ -446,6 +468,9 @@ impl Registers {
             Wide::BaseAddr if misread(L::BaseOf32) && value % 32 != 0 => {
                 return Err(Refusal::Value)
             }
+            Wide::BaseAddr if misread(L::BaseCounted) && value.count_ones() != 1 => {
+                return Err(Refusal::Value)
+            }
             Wide::BaseAddr if !value.is_multiple_of(8) => {
                 if misread(L::RefusedBaseMovesHead) {
                     (self.ring.head, self.ring.tail) = (0, 0);
@@ -502,18 +527,18 @@ impl Registers {
             }
             Narrow::PortCount | Narrow::Tail => {}
             Narrow::Size => {
-                if !is_size(value) {
-                    if misread(L::RefusedSizeMovesHead) {
-                        (ring.head, ring.tail) = (0, 0);
-                    }
-                    return Err(Refusal::Value);
+                let value = mistaken_size(value);
+                if !takes_size(value, old.size) {
+                    return ring.refused_size(value);
                 }
                 ring.size = value;
                 ring.head = 0;
                 ring.tail = 0;
                 match () {
+                    _ if misread(L::SizeIsCount) => ring.size = value.count_ones(),
                     _ if misread(L::SizeKeepsHead) => ring.head = old.head,
                     _ if misread(L::SizeKeepsTail) => ring.tail = old.tail,
+                    _ if misread(L::SizeKeepsBoth) => (ring.head, ring.tail) = (old.head, old.tail),
                     _ if misread(L::SizeSameKeepsHead) && value == old.size => *ring = old,
                     _ if misread(L::SizeDropsCredits) => ring.credits = 0,
                     _ if misread(L::SizeDropsBase) => ring.base.value = 0,
@@ -589,16 +614,55 @@ impl Registers {
     }
 }
 
-/// A power of two from 2 to 65,536.
+/// The range of a SIZE.
+const SIZES: RangeInclusive<u32> = 2..=65_536;
+
+/// A power of two from 2 to 65,536: one count of the ones, and a range.
 fn is_size(value: u32) -> bool {
+    value.count_ones() == 1 && SIZES.contains(&value)
+}
+
+/// Whether a SIZE is accepted over the one that is there.
+fn takes_size(value: u32, old: u32) -> bool {
+    let (ones, within) = (value.count_ones(), SIZES.contains(&value));
     match value {
         0 if misread(L::Size0Taken) => true,
         1 if misread(L::Size1Taken) => true,
         2 if misread(L::Size2Refused) => false,
         65_536 if misread(L::Size65536Refused) => false,
         131_072 if misread(L::Size131072Taken) => true,
-        2..=65_536 if misread(L::SizeAnyNumber) => true,
-        _ => value.is_power_of_two() && (2..=65_536).contains(&value),
+        _ if misread(L::SizeAnyNumber) => within,
+        _ if misread(L::SizeEven) => within && value % 2 == 0,
+        _ if misread(L::SizeTwoOnes) => within && ones <= 2,
+        _ if misread(L::SizeOddOnes) => within && ones % 2 == 1,
+        // A run begins with a one above a zero.
+        _ if misread(L::SizeOneRun) => within && (value & !(value << 1)).count_ones() == 1,
+        _ if misread(L::SizeOneInEachByte) => {
+            within && value.to_le_bytes().iter().all(|byte| byte.count_ones() < 2)
+        }
+        _ if misread(L::SizeLessOneCounted) => within && (value - 1).count_ones() == 1,
+        _ if misread(L::SizeZerosCounted) => within && value.count_zeros() == 1,
+        _ if misread(L::SizeCountedOnce) && old > 0 => within,
+        _ if misread(L::SizeAtMostOne) => ones <= 1 && value <= *SIZES.end(),
+        _ if misread(L::SizePowersAbove) => ones == 1 && value >= *SIZES.start(),
+        _ if misread(L::SizeAnyPower) => ones == 1,
+        _ if misread(L::SizeCountOrRange) => ones == 1 || within,
+        _ => is_size(value),
+    }
+}
+
+/// What misreadings take a SIZE for before it is tested.
+fn mistaken_size(value: u32) -> u32 {
+    match value {
+        _ if misread(L::SizeBy16Bits) => value & 0xffff,
+        _ if misread(L::SizeBy17Bits) => value & 0x1_ffff,
+        _ if misread(L::SizeToNearestEnd) && value.count_ones() == 1 => {
+            value.clamp(*SIZES.start(), *SIZES.end())
+        }
+        _ if !SIZES.contains(&value) => value,
+        _ if misread(L::SizeRoundedDown) => 1 << value.ilog2(),
+        _ if misread(L::SizeRoundedUp) => value.next_power_of_two(),
+        _ => value,
     }
 }
 
@@ -666,6 +730,57 @@ mod tests {
         }
         assert_eq!(r.ring.size, 65_536);
         assert!(r.write(4, 0x1008, 2).is_ok());
+    }
+
+    /// The sixteen SIZEs, by doubling.
+    fn doubled() -> Vec<u32> {
+        std::iter::successors(Some(2), |size| Some(size * 2))
+            .take(16)
+            .collect()
+    }
+
+    /// Every number with one, two or three ones, each with its neighbours.
+    fn few_ones() -> impl Iterator<Item = u32> {
+        let pairs = (0..32).flat_map(|a| (0..=a).map(move |b| 1u32 << a | 1 << b));
+        let threes = pairs.flat_map(|two| (0..32).map(move |c| two | 1 << c));
+        threes.flat_map(|few| [few - 1, few, few + 1])
+    }
+
+    #[test]
+    fn one_count_and_a_range_are_the_sixteen_powers() {
+        let powers = doubled();
+        // How the test was done before request 2026-04.
+        let before = |value: u32| value.is_power_of_two() && (2..=65_536).contains(&value);
+        for value in (0..=1 << 20).chain(few_ones()).chain([u32::MAX]) {
+            let told = powers.contains(&value);
+            assert_eq!([is_size(value), before(value)], [told; 2], "{value:#x}");
+        }
+        assert_eq!(powers.iter().filter(|size| is_size(**size)).count(), 16);
+    }
+
+    #[test]
+    fn a_size_is_told_by_its_low_32_bits_and_refused_without_a_trace() {
+        let (powers, mut old) = (doubled(), ring_8_5_2());
+        old.ring.credits = 9;
+        let above = [0, 1 << 32, u64::MAX << 32];
+        for (value, above) in few_ones().flat_map(|value| above.map(|above| (value, above))) {
+            let mut new = old.clone();
+            let done = new.write(4, 0x1008, above | u64::from(value));
+            if powers.contains(&value) {
+                assert_eq!(done, Ok(Written::default()));
+                let ring = &new.ring;
+                assert_eq!((ring.size, ring.head, ring.tail), (value, 0, 0));
+                new.ring = Ring {
+                    size: 8,
+                    head: 5,
+                    tail: 2,
+                    ..new.ring
+                };
+            } else {
+                assert_eq!(done, Err(Refusal::Value));
+            }
+            assert_eq!(new, old);
+        }
     }
 
     #[test]

@@ -1,4 +1,4 @@
-//! Cases from the build description, chapter by chapter, and from requests 2026-06, 2026-02, 2026-03 and 2026-05.
+//! Cases from the build description, chapter by chapter, and from requests 2026-06, 2026-02, 2026-03, 2026-04 and 2026-05.
 
 mod calls;
 mod commands;

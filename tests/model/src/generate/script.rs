@@ -28,6 +28,9 @@ const SKIPPING_SEEDS: u64 = 4;
 /// also while all places are taken (`orders`).
 const ORDER_SEEDS: u64 = 8;
 
+/// Seeds 5, 13, 21 and so on: SIZEs on all edges of their test (`sizes`).
+const SIZE_SEEDS: u64 = 8;
+
 pub fn script(seed: u64, calls: u64) -> String {
     let mut maker = Script {
         rng: Rng::new(seed).skipping(seed.is_multiple_of(SKIPPING_SEEDS)),
@@ -38,17 +41,42 @@ pub fn script(seed: u64, calls: u64) -> String {
         next_buffer: 0,
     };
     let ordering = seed % ORDER_SEEDS == ORDER_SEEDS - 2;
+    let sizing = seed % SIZE_SEEDS == SIZE_SEEDS - 3;
     maker.start();
     while maker.calls < calls {
-        match ordering && maker.rng.chance(25) {
-            true => maker.orders(),
-            false => maker.scene(),
+        match () {
+            _ if ordering && maker.rng.chance(25) => maker.orders(),
+            _ if sizing && maker.rng.chance(5) => {
+                maker.sizes();
+                maker.new_ring();
+            }
+            _ => maker.scene(),
         }
     }
     if seed % CREDIT_SEEDS == CREDIT_SEEDS - 1 {
         maker.credit_limit();
     }
     maker.out
+}
+
+/// SIZEs on both sides of each edge: powers of two in the range, no ones, a single
+/// one below and above it, two and more; ones above bit 31, which are dropped.
+fn some_sizes(rng: &mut Rng) -> Vec<u64> {
+    let mut powers: Vec<u64> = (3..16).map(|bit| 1 << bit).collect();
+    rng.shuffle(&mut powers);
+    let above = 1 << rng.range(17, 31);
+    let high = rng.range(2, 15);
+    let two = 1 << high | 1 << rng.range(0, high - 1);
+    let more = rng.range(2, 65_535) | rng.pick(&[7, 0x111, 0x7000]);
+    let apart = above | powers[6];
+    let many = rng.next() & 0xffff_ffff | 0x5_0000;
+    let dropped = rng.next() << 32 | powers[0];
+    let alone = 1 << rng.range(32, 63);
+    let mut sizes = vec![0, 1, 2, 3, 4, 65_536, 131_072];
+    sizes.extend([above, two, more, apart, many, dropped, alone]);
+    sizes.extend(&powers[1..6]);
+    rng.shuffle(&mut sizes);
+    sizes
 }
 
 /// Tables of the flows of `orders`.
@@ -557,23 +585,28 @@ impl Script {
         }
     }
 
-    /// The hold of BASE_ADDR over a SIZE write, SIZEs that are nearly right, and
-    /// devices that are not made.
-    fn odd_ring(&mut self) {
-        let low = self.rng.pick(&[8, 0x40, 0x100]);
-        self.write(4, BASE, low);
-        self.write(4, SIZE, 4);
-        self.write(4, BASE + 4, 0);
-        self.read(8, BASE);
-        self.write(4, HEAD, 1);
-        let mut sizes = [0, 1, 2, 3, 4, 65_536, 131_072];
-        self.rng.shuffle(&mut sizes);
-        for size in sizes {
+    /// SIZEs that are right and nearly right, each over a HEAD that is not 0.
+    fn sizes(&mut self) {
+        for size in some_sizes(&mut self.rng) {
             self.write(4, HEAD, 1);
             self.write(4, SIZE, size);
             self.read(4, SIZE);
             self.read(4, HEAD);
         }
+        self.read(4, CREDITS);
+    }
+
+    /// The hold of BASE_ADDR over SIZE writes, SIZEs that are nearly right, and
+    /// devices that are not made.
+    fn odd_ring(&mut self) {
+        let low = self.rng.pick(&[8, 0x40, 0x100]);
+        self.write(4, BASE, low);
+        self.write(4, SIZE, 6);
+        self.write(4, SIZE, 4);
+        self.write(4, BASE + 4, 0);
+        self.read(8, BASE);
+        self.write(4, HEAD, 1);
+        self.sizes();
         if self.rng.chance(20) {
             self.write(4, 0x10, 3);
             self.write(4, HEAD, 1);

@@ -4,6 +4,7 @@
 use crate::console::{bytes, number, Console, Execute};
 use crate::generate;
 use crate::journal::{self, replay, HEADER, LINE};
+use crate::met;
 use crate::misread::FIELDS;
 use crate::recount::nest;
 use crate::tables::{id_type, Match, Status, Tables, CMD_INFO, CMD_TYPE};
@@ -254,6 +255,26 @@ fn all(counts: &Counts, expected: &[u64]) {
     for key in expected {
         assert!(counts.contains_key(key), "{key} does not occur");
     }
+}
+
+/// Scripts of these seeds meet all of it, together.
+#[track_caller]
+pub fn meet(seeds: [u64; 4], counts: fn(&[u8]) -> met::Counts, expected: &[(&'static str, u32)]) {
+    let mut all = met::Counts::new();
+    for seed in seeds {
+        for (what, count) in counts(generate::script(seed, 4_000).as_bytes()) {
+            *all.entry(what).or_default() += count;
+        }
+    }
+    println!("{all:?}");
+    for what in expected {
+        assert!(all.contains_key(what), "{what:?} does not occur");
+    }
+}
+
+#[test]
+fn scripts_meet_sizes_on_all_edges() {
+    meet([5, 13, 21, 29], met::sizes, &met::all_sizes());
 }
 
 #[test]

@@ -1,9 +1,10 @@
 //! Request 2026-05. In tests the order is checked after every command and its search at every frame (`order::is_checked`), so what is run
 //! here, and elsewhere, holds the order against the plain way.
 
+use super::coverage::meet;
 use super::*;
 use crate::frame::copies;
-use crate::generate::{self, Rng};
+use crate::generate::Rng;
 use crate::met;
 use crate::order;
 use crate::registers::Registers;
@@ -205,15 +206,5 @@ fn random_commands_keep_256_flows_in_order() {
 
 #[test]
 fn scripts_meet_what_moves() {
-    let mut all = met::Counts::new();
-    for seed in [6, 14, 22, 30] {
-        let script = generate::script(seed, 4_000);
-        for (what, count) in met::counts(script.as_bytes()) {
-            *all.entry(what).or_default() += count;
-        }
-    }
-    println!("{all:?}");
-    for what in met::ALL {
-        assert!(all.contains_key(&what), "{what:?} does not occur");
-    }
+    meet([6, 14, 22, 30], met::counts, &met::ALL);
 }
