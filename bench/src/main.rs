@@ -6,12 +6,14 @@ mod plain;
 use interface::Rocker;
 use model::device::{Calls, Device};
 use model::frame::LIST;
+use model::registers::Refusal;
 use payload::{Family, FLOW_ADD, FLOW_MOD};
 use plain::Plain;
 use std::hint::black_box;
 use std::process::{Command, Stdio};
 use std::time::Instant;
 
+const SIZE: u64 = 0x1008;
 const HEAD: u64 = 0x100c;
 const CREDITS: u64 = 0x1018;
 const RING: u64 = 512;
@@ -96,7 +98,7 @@ impl<D: Calls> Host<D> {
             device.link(port, true).expect("a port");
         }
         device.write(8, 0x1000, 0).expect("BASE_ADDR");
-        device.write(4, 0x1008, RING).expect("SIZE");
+        device.write(4, SIZE, RING).expect("SIZE");
         device.write(8, 0x0318, u64::MAX).expect("PORT_PHYS_ENABLE");
         Host {
             device,
@@ -247,6 +249,7 @@ fn cases<D: Calls>() -> Vec<Measured> {
         assert!(host.device.read(4, black_box(CREDITS)).is_ok());
     });
     all.extend([(head, 0.0), (credits, 0.0)]);
+    all.extend(sizes::<D>());
     all.push(host.frame(&yardsticks, &payload::frame(payload::mac(1)), 1));
     all.push(host.frame(&yardsticks, &payload::frame(payload::mac(247)), 1));
     all.push(host.frame(&yardsticks, &payload::frame(payload::mac(300)), 0));
@@ -255,6 +258,19 @@ fn cases<D: Calls>() -> Vec<Measured> {
         all.extend(routing::<D>(&mut yardsticks, family));
     }
     all
+}
+
+/// SIZE written: the sixteen sizes in turn, and numbers with one bit more, which are refused.
+fn sizes<D: Calls>() -> [Measured; 2] {
+    let mut device = Host::<D>::new().device;
+    [(0, Ok(false)), (1, Err(Refusal::Value))].map(|(more, answer)| {
+        let mut power = 0;
+        let took = batch(1000, || {
+            power = power % 16 + 1;
+            assert_eq!(device.write(4, SIZE, black_box((1 << power) + more)), answer);
+        });
+        (took, 0.0)
+    })
 }
 
 /// A route added, and frames that the first, the last and none of the others decide.
@@ -273,7 +289,7 @@ fn routing<D: Calls>(yardsticks: &mut Yardsticks, family: Family) -> Vec<Measure
     all
 }
 
-const CASES: [&str; 26] = [
+const CASES: [&str; 28] = [
     "process, flow mod, 0 live (ENOENT)",
     "process, flow add, 0 live",
     "process, flow del, 1 live",
@@ -288,6 +304,8 @@ const CASES: [&str; 26] = [
     "process, group add, 62 members",
     "HEAD write",
     "CREDITS read",
+    "SIZE write, the sixteen sizes in turn",
+    "SIZE write, refused",
     "frame, unicast, first of 250 flows",
     "frame, unicast, last of 250 flows",
     "frame, miss, 250 flows",
