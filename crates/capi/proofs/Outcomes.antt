@@ -21,7 +21,7 @@ use Rattle.device.specs.declared.Called.{Called}
 use Rattle.device.specs.declared.Made.{Made}
 use Rattle.words.specs.Words.{deviceIn}
 use Rattle.capi.specs.Asking.{askRefusal, requestOf, asked}
-use Rattle.capi.specs.Outcome.{Outcome, Stored, FreshOutcome, numbersOf, toldIn, bitOf, five}
+use Rattle.capi.specs.Outcome.{Outcome, Stored, FreshOutcome, numbersOf, toldIn, bitOf, six}
 
 -- ---- What a kind of call gives
 
@@ -30,14 +30,14 @@ either : (P : Result → Type 0) (b : Bool) {x y : Result} → P x → P y → P
 either P true p q = p
 either P false p q = q
 
--- of the five numbers those that the kind of call gives, and 0 for the others
+-- of the six numbers those that the kind of call gives, and 0 for the others
 abbrev pub givenBy : Request → Result → List ℕ
-givenBy (Read offset width) of = five (of .told .value) 0 0 0 0
-givenBy (Write offset width value) of = five 0 (bitOf (elem 0 (of .told .vectors))) 0 0 0
-givenBy (Link port up) of = five 0 0 0 0 0
-givenBy Process of = five 0 (bitOf (elem 0 (of .told .vectors))) (of .told .completed) (of .told .written) 0
-givenBy (Frame port) of = five 0 0 0 0 (of .told .outputs)
-givenBy Header of = five 0 0 0 (of .told .written) 0
+givenBy (Read offset width) of = six (of .told .value) 0 0 0 0 0
+givenBy (Write offset width value) of = six 0 (bitOf (elem 0 (of .told .vectors))) 0 0 0 (bitOf (of .told .reset))
+givenBy (Link port up) of = six 0 0 0 0 0 0
+givenBy Process of = six 0 (bitOf (elem 0 (of .told .vectors))) (of .told .completed) (of .told .written) 0 0
+givenBy (Frame port) of = six 0 0 0 0 (of .told .outputs) 0
+givenBy Header of = six 0 0 0 (of .told .written) 0 0
 
 module _ (s : Switch) (x : Borrowed) where
   done-gives : (q : Request) → givenBy q (effect s x q) ≡ numbersOf (effect s x q)
@@ -142,7 +142,7 @@ unfolding askRefusal
 no-kind kind b n0 n1 n2 n3 n4 n5 = rw (lt-ltb 5 kind (omega arith))
 
 module _ (w : List ℕ) (a : Storage) (x : Borrowed) (kind m b c : ℕ) where
-  pub refused : askRefusal kind b ≡ 2 → Outcome 2 w w a a (five 0 0 0 0 0) (x .memory) (x .buffer) (x .list) (asked (switchOf (deviceIn w) a) x kind m b c)
+  pub refused : askRefusal kind b ≡ 2 → Outcome 2 w w a a (six 0 0 0 0 0 0) (x .memory) (x .buffer) (x .list) (asked (switchOf (deviceIn w) a) x kind m b c)
   unfolding asked unlessRefused unchanged numbersOf toldIn bitOf elem
   refused e =
       rw e

@@ -21,18 +21,18 @@ use Rattle.words.specs.Words.{deviceIn}
 unfoldable pub bitOf : Bool → ℕ
 bitOf b = choose b 1 0
 
--- the five numbers that a call gives: what it tells, where of the vectors there is one, 0
-abbrev pub five : ℕ → ℕ → ℕ → ℕ → ℕ → List ℕ
-five value raised completed bytes outputs = value ∷ raised ∷ completed ∷ bytes ∷ outputs ∷ []
+-- the six numbers that a call gives: what it tells, where of the vectors there is one, 0
+abbrev pub six : ℕ → ℕ → ℕ → ℕ → ℕ → ℕ → List ℕ
+six value raised completed bytes outputs reset = value ∷ raised ∷ completed ∷ bytes ∷ outputs ∷ reset ∷ []
 
 unfoldable pub toldIn : Told → List ℕ
-toldIn t = five (t .value) (bitOf (elem 0 (t .vectors))) (t .completed) (t .written) (t .outputs)
+toldIn t = six (t .value) (bitOf (elem 0 (t .vectors))) (t .completed) (t .written) (t .outputs) (bitOf (t .reset))
 
 -- a refused call has 0 in each
 unfoldable pub numbersOf : Result → List ℕ
 numbersOf of = toldIn (of .told)
 
--- of a call: its answer; the words and the arrays before and after it; the five numbers, 0 where the function does not give one; what
+-- of a call: its answer; the words and the arrays before and after it; the six numbers, 0 where the function does not give one; what
 -- guest memory, buffer and list hold after it; and the rules' result of it
 pub record Outcome (answer : ℕ) (w w′ : List ℕ) (a a′ : Storage) (out memory buffer list : List ℕ) (of : Result) : Type 0 where
   pub answer-is : answer ≡ of .answer

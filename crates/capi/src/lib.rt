@@ -19,7 +19,7 @@ ghost use Rattle.rules.specs.declared.Request.the-variants.{Read, Write, Proces
 ghost use Rattle.device.specs.Outcome.{borrowed};
 ghost use Rattle.words.specs.Words.{deviceIn};
 ghost use Rattle.capi.specs.Asking.{asked};
-ghost use Rattle.capi.specs.Outcome.{Outcome, Stored, FreshOutcome, five, bitOf, partsSize};
+ghost use Rattle.capi.specs.Outcome.{Outcome, Stored, FreshOutcome, six, bitOf, partsSize};
 
 // ---- Numbers in and out
 
@@ -81,7 +81,7 @@ pub extern "C" fn rocker_read_parts(
     width: u64,
     value: &mut u64,
 ) -> u32
-    ensures { λ r. ⌜ ((a : Storage) (b : Borrowed) → Outcome r (now (registers .entry)) (now (registers .entry)) a a (five (now (value .exit)) 0 0 0 0) (b .memory) (b .buffer) (b .list) (step (switchOf (deviceIn (now (registers .entry))) a) b (Read offset width))) ⌝ }
+    ensures { λ r. ⌜ ((a : Storage) (b : Borrowed) → Outcome r (now (registers .entry)) (now (registers .entry)) a a (six (now (value .exit)) 0 0 0 0 0) (b .memory) (b .buffer) (b .list) (step (switchOf (deviceIn (now (registers .entry))) a) b (Read offset width))) ⌝ }
 {
     let r = device::read(words::device_of(*registers), offset, width);
     *value = r.value;
@@ -96,11 +96,13 @@ pub extern "C" fn rocker_write_parts(
     width: u64,
     value: u64,
     raised: &mut u64,
+    reset: &mut u64,
 ) -> u32
-    ensures { λ r. ⌜ ((a : Storage) (b : Borrowed) → Outcome r (now (registers .entry)) (now (registers .exit)) a a (five 0 (now (raised .exit)) 0 0 0) (b .memory) (b .buffer) (b .list) (step (switchOf (deviceIn (now (registers .entry))) a) b (Write offset width value))) ⌝ }
+    ensures { λ r. ⌜ ((a : Storage) (b : Borrowed) → Outcome r (now (registers .entry)) (now (registers .exit)) a a (six 0 (now (raised .exit)) 0 0 0 (now (reset .exit))) (b .memory) (b .buffer) (b .list) (step (switchOf (deviceIn (now (registers .entry))) a) b (Write offset width value))) ⌝ }
 {
     let r = device::write(words::device_of(*registers), offset, width, value);
     *raised = bit_of(r.interrupt);
+    *reset = bit_of(r.reset);
     let answer = r.answer;
     let after = r.device;
     store(registers, answer, after)
@@ -109,7 +111,7 @@ pub extern "C" fn rocker_write_parts(
 // The owner sets a port's link: 0 is down, 1 is up.
 #[no_mangle]
 pub extern "C" fn rocker_link_parts(registers: &mut [u64; 20], port: u64, up: u64) -> u32
-    ensures { λ r. ⌜ ((a : Storage) (b : Borrowed) → Outcome r (now (registers .entry)) (now (registers .exit)) a a (five 0 0 0 0 0) (b .memory) (b .buffer) (b .list) (asked (switchOf (deviceIn (now (registers .entry))) a) b 2 port up 0)) ⌝ }
+    ensures { λ r. ⌜ ((a : Storage) (b : Borrowed) → Outcome r (now (registers .entry)) (now (registers .exit)) a a (six 0 0 0 0 0 0) (b .memory) (b .buffer) (b .list) (asked (switchOf (deviceIn (now (registers .entry))) a) b 2 port up 0)) ⌝ }
 {
     if 1 < up {
         return 2;
@@ -134,7 +136,7 @@ pub extern "C" fn rocker_process_parts(
     completed: &mut u64,
     bytes: &mut u64,
 ) -> u32
-    ensures { λ r. ⌜ ((frame list : List ℕ) → Outcome r (now (registers .entry)) (now (registers .exit)) (storage (now (flows .entry)) (now (heads .entry)) (now (members .entry)) (now (order .entry))) (storage (now (flows .exit)) (now (heads .exit)) (now (members .exit)) (now (order .exit))) (five 0 (now (raised .exit)) (now (completed .exit)) (now (bytes .exit)) 0) (now (memory .exit)) (now (buffer .exit)) list (step (switchOf (deviceIn (now (registers .entry))) (storage (now (flows .entry)) (now (heads .entry)) (now (members .entry)) (now (order .entry)))) (borrowed (now (memory .entry)) frame (now (buffer .entry)) list) Process)) ⌝ }
+    ensures { λ r. ⌜ ((frame list : List ℕ) → Outcome r (now (registers .entry)) (now (registers .exit)) (storage (now (flows .entry)) (now (heads .entry)) (now (members .entry)) (now (order .entry))) (storage (now (flows .exit)) (now (heads .exit)) (now (members .exit)) (now (order .exit))) (six 0 (now (raised .exit)) (now (completed .exit)) (now (bytes .exit)) 0 0) (now (memory .exit)) (now (buffer .exit)) list (step (switchOf (deviceIn (now (registers .entry))) (storage (now (flows .entry)) (now (heads .entry)) (now (members .entry)) (now (order .entry)))) (borrowed (now (memory .entry)) frame (now (buffer .entry)) list) Process)) ⌝ }
 {
     let d = words::device_of(*registers);
     let r = device::process(d, memory, buffer, flows, heads, members, order);
@@ -161,7 +163,7 @@ pub extern "C" fn rocker_frame_parts(
     list: &mut [u16],
     outputs: &mut u64,
 ) -> u32
-    ensures { λ r. ⌜ ((memory buffer : List ℕ) → Outcome r (now (registers .entry)) (now (registers .entry)) (storage (now (flows .entry)) (now (heads .entry)) (now (members .entry)) (now (order .entry))) (storage (now (flows .entry)) (now (heads .entry)) (now (members .entry)) (now (order .entry))) (five 0 0 0 0 (now (outputs .exit))) memory buffer (now (list .exit)) (step (switchOf (deviceIn (now (registers .entry))) (storage (now (flows .entry)) (now (heads .entry)) (now (members .entry)) (now (order .entry)))) (borrowed memory (now (frame .entry)) buffer (now (list .entry))) (Frame port))) ⌝ }
+    ensures { λ r. ⌜ ((memory buffer : List ℕ) → Outcome r (now (registers .entry)) (now (registers .entry)) (storage (now (flows .entry)) (now (heads .entry)) (now (members .entry)) (now (order .entry))) (storage (now (flows .entry)) (now (heads .entry)) (now (members .entry)) (now (order .entry))) (six 0 0 0 0 (now (outputs .exit)) 0) memory buffer (now (list .exit)) (step (switchOf (deviceIn (now (registers .entry))) (storage (now (flows .entry)) (now (heads .entry)) (now (members .entry)) (now (order .entry)))) (borrowed memory (now (frame .entry)) buffer (now (list .entry))) (Frame port))) ⌝ }
 {
     let d = words::device_of(*registers);
     let r = device::frame(d, port, frame, list, flows, heads, members, order);
@@ -177,7 +179,7 @@ pub extern "C" fn rocker_header_parts(
     buffer: &mut [u8],
     bytes: &mut u64,
 ) -> u32
-    ensures { λ r. ⌜ ((a : Storage) (memory frame list : List ℕ) → Outcome r (now (registers .entry)) (now (registers .entry)) a a (five 0 0 0 (now (bytes .exit)) 0) memory (now (buffer .exit)) list (step (switchOf (deviceIn (now (registers .entry))) a) (borrowed memory frame (now (buffer .entry)) list) Header)) ⌝ }
+    ensures { λ r. ⌜ ((a : Storage) (memory frame list : List ℕ) → Outcome r (now (registers .entry)) (now (registers .entry)) a a (six 0 0 0 (now (bytes .exit)) 0 0) memory (now (buffer .exit)) list (step (switchOf (deviceIn (now (registers .entry))) a) (borrowed memory frame (now (buffer .entry)) list) Header)) ⌝ }
 {
     let r = device::header(words::device_of(*registers), buffer);
     *bytes = r.written as u64;
@@ -195,7 +197,7 @@ fn process_into(
     order: &mut FlowOrder,
     memory: &mut [u8],
     buffer: &mut [u8],
-    out: &mut [u64; 5],
+    out: &mut [u64; 6],
 ) -> u32
     ensures { λ r. ⌜ ((frame list : List ℕ) → Outcome r (now (registers .entry)) (now (registers .exit)) (storage (now (flows .entry)) (now (heads .entry)) (now (members .entry)) (now (order .entry))) (storage (now (flows .exit)) (now (heads .exit)) (now (members .exit)) (now (order .exit))) (now (out .exit)) (now (memory .exit)) (now (buffer .exit)) list (step (switchOf (deviceIn (now (registers .entry))) (storage (now (flows .entry)) (now (heads .entry)) (now (members .entry)) (now (order .entry)))) (borrowed (now (memory .entry)) frame (now (buffer .entry)) list) Process)) ⌝ }
 {
@@ -214,7 +216,7 @@ fn process_into(
         &mut completed,
         &mut bytes,
     );
-    *out = [0, raised, completed, bytes, 0];
+    *out = [0, raised, completed, bytes, 0, 0];
     answer
 }
 
@@ -227,7 +229,7 @@ fn frame_into(
     port: u64,
     frame: &[u8],
     list: &mut [u16],
-    out: &mut [u64; 5],
+    out: &mut [u64; 6],
 ) -> u32
     ensures { λ r. ⌜ ((memory buffer : List ℕ) → Outcome r (now (registers .entry)) (now (registers .entry)) (storage (now (flows .entry)) (now (heads .entry)) (now (members .entry)) (now (order .entry))) (storage (now (flows .entry)) (now (heads .entry)) (now (members .entry)) (now (order .entry))) (now (out .exit)) memory buffer (now (list .exit)) (step (switchOf (deviceIn (now (registers .entry))) (storage (now (flows .entry)) (now (heads .entry)) (now (members .entry)) (now (order .entry)))) (borrowed memory (now (frame .entry)) buffer (now (list .entry))) (Frame port))) ⌝ }
 {
@@ -243,11 +245,11 @@ fn frame_into(
         list,
         &mut outputs,
     );
-    *out = [0, 0, 0, 0, outputs];
+    *out = [0, 0, 0, 0, outputs, 0];
     answer
 }
 
-// Any call by its kind, with all that it may borrow. What it gives goes to `out`: value, raised, completed, bytes, outputs. It goes through
+// Any call by its kind, with all that it may borrow. What it gives goes to `out`: value, raised, completed, bytes, outputs, reset. It goes through
 // the functions above, so that each call of the device stands in one place of the archive, where the compiler puts it in whole.
 #[no_mangle]
 pub extern "C" fn rocker_call_parts(
@@ -264,20 +266,21 @@ pub extern "C" fn rocker_call_parts(
     frame: &[u8],
     buffer: &mut [u8],
     list: &mut [u16],
-    out: &mut [u64; 5],
+    out: &mut [u64; 6],
 ) -> u32
     ensures { λ r. ⌜ Outcome r (now (registers .entry)) (now (registers .exit)) (storage (now (flows .entry)) (now (heads .entry)) (now (members .entry)) (now (order .entry))) (storage (now (flows .exit)) (now (heads .exit)) (now (members .exit)) (now (order .exit))) (now (out .exit)) (now (memory .exit)) (now (buffer .exit)) (now (list .exit)) (asked (switchOf (deviceIn (now (registers .entry))) (storage (now (flows .entry)) (now (heads .entry)) (now (members .entry)) (now (order .entry)))) (borrowed (now (memory .entry)) (now (frame .entry)) (now (buffer .entry)) (now (list .entry))) kind a b c) ⌝ }
 {
     if kind == 0 {
         let mut value = 0;
         let answer = rocker_read_parts(registers, a, b, &mut value);
-        *out = [value, 0, 0, 0, 0];
+        *out = [value, 0, 0, 0, 0, 0];
         return answer;
     }
     if kind == 1 {
         let mut raised = 0;
-        let answer = rocker_write_parts(registers, a, b, c, &mut raised);
-        *out = [0, raised, 0, 0, 0];
+        let mut reset = 0;
+        let answer = rocker_write_parts(registers, a, b, c, &mut raised, &mut reset);
+        *out = [0, raised, 0, 0, 0, reset];
         return answer;
     }
     if kind == 3 {
@@ -289,10 +292,10 @@ pub extern "C" fn rocker_call_parts(
     if kind == 5 {
         let mut bytes = 0;
         let answer = rocker_header_parts(registers, buffer, &mut bytes);
-        *out = [0, 0, 0, bytes, 0];
+        *out = [0, 0, 0, bytes, 0, 0];
         return answer;
     }
-    *out = [0, 0, 0, 0, 0];
+    *out = [0, 0, 0, 0, 0, 0];
     if kind == 2 {
         return rocker_link_parts(registers, a, b);
     }

@@ -18,7 +18,7 @@ use Rattle.device.specs.declared.Called.{Called}
 use Rattle.device.proofs.Outcome.{outcome-refused, outcome-done}
 
 unfoldable pub withOutputs : Called → ℕ → Called
-withOutputs r n = record { answer = r .answer; value = r .value; interrupt = r .interrupt; completed = r .completed; written = r .written; outputs = n; device = r .device }
+withOutputs r n = record { answer = r .answer; value = r .value; interrupt = r .interrupt; completed = r .completed; written = r .written; outputs = n; reset = r .reset; device = r .device }
 
 pub frame-outcome : (d : Device) (a : Storage) (memory f buffer list after : List ℕ) (port : ℕ) (x : Framed)
     → egress.Outcome (d .registers) (decidesFirst (liveFlows (d .counts .flows) (a .arrays .flows)) (orderIn (d .counts .flows) (d .firsts) (a .order)))

@@ -79,6 +79,9 @@ module _ {r : Called} {d : Device} {a a′ : Storage} {memory buffer list : List
   pub outputs-told : r .outputs ≡ of .told .outputs
   outputs-told = ap (λ (t : Told). t .outputs) (o .told-is)
 
+  pub reset-told : r .reset ≡ of .told .reset
+  reset-told = ap (λ (t : Told). t .reset) (o .told-is)
+
 -- ---- Read
 
 read-refused : (d : Registers) (a : Access) → (accessRefusal a ≡ 0 → ⊥) → readValue d a ≡ 0
@@ -91,7 +94,7 @@ read-refused d (Upper r) n = absurd (n refl)
 
 -- a read's result: the answer, the value, and nothing else
 unfoldable pub withValue : Called → ℕ → Called
-withValue r v = record { answer = r .answer; value = v; interrupt = r .interrupt; completed = r .completed; written = r .written; outputs = r .outputs; device = r .device }
+withValue r v = record { answer = r .answer; value = v; interrupt = r .interrupt; completed = r .completed; written = r .written; outputs = r .outputs; reset = r .reset; device = r .device }
 
 module _ (d : Device) (a : Storage) (b : Borrowed) where
   pub read-outcome : (offset width : ℕ) (x : Reading) → Reads x (d .registers) offset width
@@ -151,9 +154,9 @@ unfolding raised
 none-raised true e = absurd (nil≢cons (sym e))
 none-raised false e = refl
 
--- a write's result: the answer, the interrupt, and nothing else
-unfoldable pub withInterrupt : Called → Bool → Called
-withInterrupt r i = record { answer = r .answer; value = r .value; interrupt = i; completed = r .completed; written = r .written; outputs = r .outputs; device = r .device }
+-- a write's result: the answer, the interrupt, whether it reset the device, and nothing else
+unfoldable pub withInterrupt : Called → Bool → Bool → Called
+withInterrupt r i resets = record { answer = r .answer; value = r .value; interrupt = i; completed = r .completed; written = r .written; outputs = r .outputs; reset = resets; device = r .device }
 
 -- the tables after a write: none live after a reset
 counts-after : (resets : Bool) (counts : Counts) (a : Arrays)
@@ -173,12 +176,12 @@ module _ (d : Device) (a : Storage) (b : Borrowed) (offset width v : ℕ) (x : r
   -- the device has the registers after the write, and tables and order as they were or, after a reset, none
   pub write-outcome : (counts : Counts) (firsts : Firsts) → counts ≡ choose (x .resets) noneLive (d .counts)
       → firsts ≡ choose (x .resets) (noOrder .firsts) (d .firsts)
-      → Outcome (withInterrupt (quiet (record { registers = x .registers; counts = counts; firsts = firsts }) (x .answer)) (x .interrupt)) d a a (b .memory) (b .buffer) (b .list) (step (switchOf d a) b (Write offset width v))
+      → Outcome (withInterrupt (quiet (record { registers = x .registers; counts = counts; firsts = firsts }) (x .answer)) (x .interrupt) (x .resets)) d a a (b .memory) (b .buffer) (b .list) (step (switchOf d a) b (Write offset width v))
   unfolding withInterrupt quiet refusalBy effectBy writeEffect switchOf
   write-outcome counts firsts k l =
       by-eq (write (d .registers) offset width v .refusal) 0
       (λ z p. outcome-done d a b (Write offset width v) _ _ _ _ _ z
-      (record { answer-is = h .answer ∙ z; told-is = rw (h .vectors); memory-is = refl; buffer-is = refl; list-is = refl; switch-is = rw (k, l, h .registers, counts-after (x .resets) (d .counts) (a .arrays), order-after (x .resets) (d .counts) (d .firsts) (a .order), h .resets); device-kept = λ n. absurd (n refl); places-kept = λ n. refl }))
+      (record { answer-is = h .answer ∙ z; told-is = rw (h .vectors, h .resets); memory-is = refl; buffer-is = refl; list-is = refl; switch-is = rw (k, l, h .registers, counts-after (x .resets) (d .counts) (a .arrays), order-after (x .resets) (d .counts) (d .firsts) (a .order), h .resets); device-kept = λ n. absurd (n refl); places-kept = λ n. refl }))
       (λ n p.
       let w = write-kept (d .registers) offset width v n in
       let i : x .interrupt ≡ false = none-raised (x .interrupt) (h .vectors ∙ rw w (unfold sets in refl)) in
@@ -189,7 +192,7 @@ module _ (d : Device) (a : Storage) (b : Borrowed) (offset width v : ℕ) (x : r
 -- ---- Header
 
 unfoldable pub withWritten : Called → ℕ → Called
-withWritten r n = record { answer = r .answer; value = r .value; interrupt = r .interrupt; completed = r .completed; written = n; outputs = r .outputs; device = r .device }
+withWritten r n = record { answer = r .answer; value = r .value; interrupt = r .interrupt; completed = r .completed; written = n; outputs = r .outputs; reset = r .reset; device = r .device }
 
 module _ (d : Device) (a : Storage) (memory frame buffer list : List ℕ) where
   pub header-short : length buffer < 6

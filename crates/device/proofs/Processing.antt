@@ -49,6 +49,7 @@ result counts firsts x completed raises next =
       completed = completed;
       written = 6 + x .size;
       outputs = 0;
+      reset = false;
       device = record { registers = next; counts = counts; firsts = firsts };
     }
 

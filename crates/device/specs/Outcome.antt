@@ -19,7 +19,7 @@ use Rattle.device.specs.declared.Made.{Made}
 -- what a call of the code tells, as the rules have it: its one vector is 0
 abbrev pub toldBy : Called → Told
 toldBy r =
-    record { value = r .value; vectors = raised 0 (r .interrupt); completed = r .completed; written = r .written; outputs = r .outputs }
+    record { value = r .value; vectors = raised 0 (r .interrupt); completed = r .completed; written = r .written; outputs = r .outputs; reset = r .reset }
 
 -- of a call r on the device d, whose places and order stand in a and after it in a′: what guest memory, buffer and list hold after it,
 -- and the rules' result of it
@@ -41,7 +41,7 @@ borrowed memory frame buffer list = record { memory = memory; frame = frame; buf
 
 -- an answer and nothing else
 unfoldable pub quiet : Device → Answer → Called
-quiet d a = record { answer = a; value = 0; interrupt = false; completed = 0; written = 0; outputs = 0; device = d }
+quiet d a = record { answer = a; value = 0; interrupt = false; completed = 0; written = 0; outputs = 0; reset = false; device = d }
 
 -- a fresh device, and every number of its places and their order 0; refused, no device, and all as it was
 pub record Makes (r : Made) (ports id : ℕ) (a a′ : Storage) : Type 0 where

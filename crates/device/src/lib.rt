@@ -27,8 +27,8 @@ ghost use Rattle.rules.specs.declared.Request.the-variants.{Read, Write, Link, 
 ghost use Rattle.device.specs.Outcome.{Outcome, Makes, borrowed, quiet};
 
 // What a call gives: the answer; what it tells (`toldBy`), which is the value that a read gives, whether vector 0 was raised, the
-// completion that process wrote (0 for none), how many bytes were written into the buffer, and how many outputs into the list; and the
-// device after it.
+// completion that process wrote (0 for none), how many bytes were written into the buffer, how many outputs into the list, and whether the
+// device was reset, so that its journal begins anew; and the device after it.
 pub struct Called {
     pub answer: Answer,
     pub value: u64,
@@ -36,6 +36,7 @@ pub struct Called {
     pub completed: u16,
     pub written: usize,
     pub outputs: usize,
+    pub reset: bool,
     pub device: Device,
 }
 
@@ -56,6 +57,7 @@ fn answered(d: Device, answer: Answer) -> Called
         completed: 0,
         written: 0,
         outputs: 0,
+        reset: false,
         device: d,
     }
 }
@@ -179,6 +181,7 @@ pub fn write(d: Device, offset: u64, width: u64, value: u64) -> Called
     };
     let mut r = answered(after, answer);
     r.interrupt = w.interrupt;
+    r.reset = w.resets;
     r
 }
 
@@ -243,6 +246,7 @@ pub fn process(
         completed: completed,
         written: 6 + s.size,
         outputs: 0,
+        reset: false,
         device: Device {
             registers: moved,
             counts: live,

@@ -27,13 +27,14 @@ use Rattle.rules.proofs.Switch.{refused, accepted}
 use Rattle.rules.proofs.Tables.{not-ok-unchanged}
 use Rattle.history.specs.Trace.{Call, final, trace}
 use Rattle.history.specs.RingHistory.{emptied, notesRing, ringOf}
-use Rattle.history.specs.JournalHistory.{noRecords, notesJournal, journalOf}
+use Rattle.history.specs.JournalHistory.{noRecords, notesJournal, journalOf, keptBy}
 use Rattle.history.specs.CreditHistory.{noCredits, notesCredits, creditsOf}
 use Rattle.history.specs.Claim.{Claim}
 use Rattle.history.proofs.Always.{always, answer-is, process-idle, process-accepted}
 use Rattle.history.proofs.RingInvariant.{RingInvariantOf, ring-emptied, ring-order, ring-idle, ring-keeps}
 use Rattle.history.proofs.JournalInvariant.{JournalInvariant, journal-begins, journal-keeps}
 use Rattle.history.proofs.CreditInvariant.{CreditInvariant, credits-keep}
+use Rattle.history.proofs.Kept.{all-kept}
 use Rattle.history.proofs.Completions.{step-completes, each-completed}
 use Rattle.history.proofs.TableOrder.{ordered-table}
 use Rattle.history.proofs.Drains.{drain}
@@ -79,7 +80,7 @@ header-writes ports s b q e =
 -- for every port count from 1 to 62, every switch ID and every list of calls
 pub demand3 : (ports id : ℕ) → 1 ≤ ports → ports ≤ maxPorts → (calls : List Call)
     → Claim ports (final (freshSwitch ports id) calls) (trace (freshSwitch ports id) calls)
-unfolding ringOf journalOf creditsOf
+unfolding ringOf journalOf keptBy creditsOf
 demand3 ports id lo hi calls =
     let s₀ = freshSwitch ports id in
     let s = final s₀ calls in
@@ -100,6 +101,7 @@ demand3 ports id lo hi calls =
       flows = ordered-table cookieOf maxFlows (s .tables .flows) (journal .in-order .flows-rise) (journal .in-order .flows-fit);
       groups = ordered-table idOf maxGroups (s .tables .groups) (journal .in-order .groups-rise) (journal .in-order .groups-fit);
       replays = unfold replay finish ready finished endsIn in rw (journal .reads);
+      kept = all-kept s₀ noRecords calls;
       heads = λ b. header-writes ports s b (journal .ports-are);
       unpaid = process-unpaid s;
       unpaid-record = record-unpaid;

@@ -4,6 +4,7 @@ pub mod Always
 pub mod Writes
 pub mod RingInvariant
 pub mod JournalInvariant
+pub mod Kept
 pub mod CreditInvariant
 pub mod Drains
 pub mod TableOrder

@@ -17,7 +17,7 @@ use Rattle.rules.specs.declared.Status.the-variants.{Ok}
 use Rattle.rules.specs.declared.Request.the-variants.{Process, Header}
 use Rattle.history.specs.Trace.{Seen, NoneAnswered456, seen, final, trace, processes}
 use Rattle.history.specs.RingHistory.{ringOf}
-use Rattle.history.specs.JournalHistory.{journalOf}
+use Rattle.history.specs.JournalHistory.{journalOf, keptBy}
 use Rattle.history.specs.CreditHistory.{creditsOf}
 use Rattle.history.specs.Completion.{CompletesItsSlot}
 use Rattle.history.specs.TableOrder.{OrderedTable}
@@ -38,6 +38,8 @@ pub record Claim (ports : ℕ) (s : Switch) (t : List Seen) : Type 0 where
   -- replaying the journal gives the device's tables and the charge
   pub replays : replay (header (currentTerms ports) ++ journalOf t .journal)
       ≡ Replays (record { terms = currentTerms ports; records = journalOf t .records; charged = journalOf t .completedOk; tables = s .tables })
+  -- a host that begins a new journal at each call which tells a reset, and adds the record of each that tells a completion, has that journal
+  pub kept : keptBy t ≡ journalOf t
   -- that header is the one which a header call writes, whenever it comes
   pub heads : (b : Borrowed) → step s b Header .answer ≡ 0
       → (take (step s b Header .told .written) (step s b Header .buffer) ≡ header (currentTerms ports)) × (step s b Header .switch ≡ s)

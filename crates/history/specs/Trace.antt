@@ -19,12 +19,14 @@ pub record Call : Type 0 where
 unfoldable pub stepAt : Switch → Call → Result
 stepAt s m = step s (m .borrowed) (m .request)
 
--- All that an observer sees of a call: its arguments, its answer, the completion that it wrote (0 for none), the bytes that it wrote
--- into the buffer, BASE_ADDR as it stood when the call was made, and guest memory before and after it
+-- All that an observer sees of a call: its arguments, its answer, the completion that it wrote (0 for none), whether it told that the
+-- device was reset, the bytes that it wrote into the buffer, BASE_ADDR as it stood when the call was made, and guest memory before and
+-- after it
 pub record Seen : Type 0 where
   pub request : Request
   pub answer : ℕ
   pub completed : ℕ
+  pub reset : Bool
   pub written : List ℕ
   pub base : ℕ
   pub memory : List ℕ
@@ -36,6 +38,7 @@ seen s b r x =
       request = r;
       answer = x .answer;
       completed = x .told .completed;
+      reset = x .told .reset;
       written = take (x .told .written) (x .buffer);
       base = commandRing (s .registers) .«base_addr»;
       memory = b .memory;

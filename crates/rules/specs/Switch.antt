@@ -9,7 +9,7 @@ use Rattle.rules.specs.Answers.{code}
 use Rattle.rules.specs.Limits.{maxFlows}
 use Rattle.rules.specs.Bytes.{bytesOf, splice}
 use Rattle.rules.specs.Writes.{Write, bytesAt, memoryAfter}
-use Rattle.rules.specs.Told.{Told, nothing, withValue, withVectors, withCompleted, withWritten, withOutputs}
+use Rattle.rules.specs.Told.{Told, nothing, withValue, withVectors, withCompleted, withWritten, withOutputs, withReset}
 use Rattle.rules.specs.Ring.{completeEffect, completeRaises}
 use Rattle.rules.specs.Registers.{Written, write, read, readRefusal, commandRing, withCommandRing, raised, withLinks, freshRegisters, portCountAllowed, portAllowed, linkEffect, termsOf}
 use Rattle.rules.specs.Descriptor.{Fetched, descriptorAt, descriptor, slotRefusal, completionAt, fetch}
@@ -121,12 +121,12 @@ bufferRefusal n buffer = refuse (ltb (length buffer) n) 6 0
 unfoldable pub readEffect : Switch → Borrowed → ℕ → ℕ → Result
 readEffect s b offset width = result 0 (withValue (read (s .registers) offset width) nothing) s b
 
--- a device reset empties the tables
+-- a device reset empties the tables, and is told: the journal holds the records since the last one
 unfoldable pub writeEffect : Switch → Borrowed → Written → Result
 writeEffect s b w =
     result
     0
-    (withVectors (w .vectors) nothing)
+    (withReset (w .resets) (withVectors (w .vectors) nothing))
     (record {
       registers = w .registers;
       tables = choose (w .resets) emptyTables (s .tables);

@@ -20,7 +20,7 @@ use Rattle.rules.specs.Switch.{Switch, Storage, orderIn, switchOf, freshRefusal
 use Rattle.rules.specs.declared.Device.{Device}
 use Rattle.rules.proofs.Cases.{by-eq, and-left, and-right}
 use Rattle.device.specs.Outcome.{borrowed}
-use Rattle.device.proofs.Outcome.{completed-told, written-told}
+use Rattle.device.proofs.Outcome.{completed-told, written-told, reset-told}
 use Rattle.replaying.specs.Reading.{progressOf}
 use Rattle.replaying.specs.Replaying.{resultOf, Gives}
 use Rattle.replaying.specs.declared.replay.Replayed.{Replayed}
@@ -62,7 +62,7 @@ seen-is : (d : Device) (a : Storage) (c : CodeCall) → Ensured d a c
 unfolding seenBy seen stepAt borrowed
 seen-is d a c o =
     let r : switchOf d a .registers ≡ d .registers = unfold switchOf in refl in
-    rw (o .answer-is, completed-told o, written-told o, o .buffer-is, o .memory-is, r)
+    rw (o .answer-is, completed-told o, reset-told o, written-told o, o .buffer-is, o .memory-is, r)
 
 chain-is : (d : Device) (a : Storage) (cs : List CodeCall) → Chain d a cs
     → (switchOf (lastDevice d cs) (lastArrays a cs) ≡ final (switchOf d a) (callsOf cs)) × (seenOf d cs ≡ trace (switchOf d a) (callsOf cs))

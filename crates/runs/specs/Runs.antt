@@ -60,6 +60,7 @@ seenBy d c =
       request = c .request;
       answer = number (c .gives .answer);
       completed = c .gives .completed;
+      reset = c .gives .reset;
       written = take (c .gives .written) (c .bufferAfter);
       base = commandRing (d .registers) .«base_addr»;
       memory = c .memory;

@@ -24,7 +24,7 @@ rocker-write-parts-requires c κs = search needs
 returns-2 : tie.Need-returns-2
 unfolding asked askRefusal requestOf unlessRefused borrowed
 returns-2 c =
-    let k = c .before .before .before .before in
+    let k = c .before .before .before .before .before in
     let a = k .before .before .before .before .before .before .args in
     rw (k .if2 .taken) (c .before .rocker-write-parts .ensures _ (borrowed (a .memory .now) (a .frame .now) (a .buffer .now) (a .list .now)))
 

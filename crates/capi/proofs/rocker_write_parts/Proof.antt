@@ -1,6 +1,6 @@
 -- `capi::rocker_write_parts` meets its contract.
 -- Assumes nothing.
-use Rattle.device.proofs.Outcome.{raised-told}
+use Rattle.device.proofs.Outcome.{raised-told, reset-told}
 use Rattle.rules.specs.declared.Request.the-variants.{Write}
 use Rattle.capi.proofs.Outcomes.{stored}
 use borrow.Author.Needs.{needs}
@@ -16,14 +16,20 @@ write-requires c κs = search needs
 bit-of-requires : tie.Need-bit-of-requires
 bit-of-requires c κs = search needs
 
+bit-of-requires-2 : tie.Need-bit-of-requires-2
+bit-of-requires-2 c κs = search needs
+
 store-requires : tie.Need-store-requires
 store-requires c κs = search needs
 
 returns : tie.Need-returns
 returns c =
-    let b = c .before .before .before in
+    let t = c .before .before .before in
+    let b = t .before in
     let r = b .before in
-    λ a x. stored _ _ a x (Write _ _ _) (r .before .device-of .ensures) (r .write .ensures a x) (rw (b .bit-of .ensures, raised-told (r .write .ensures a x))) (c .store .ensures)
+    λ a x.
+    let o = r .write .ensures a x in
+    stored _ _ a x (Write _ _ _) (r .before .device-of .ensures) o (rw (b .bit-of .ensures, t .bit-of2 .ensures, raised-told o, reset-told o)) (c .store .ensures)
 
 pub rocker-write-parts-spec : {M : Type 1} → statement M
-rocker-write-parts-spec = tie.close (tie.spec device-of-requires write-requires bit-of-requires store-requires returns)
+rocker-write-parts-spec = tie.close (tie.spec device-of-requires write-requires bit-of-requires bit-of-requires-2 store-requires returns)
