@@ -3,6 +3,7 @@
 
 use hex::Counted;
 use lines::print;
+use lines::told;
 use rules::Device;
 use rules::FlowOrder;
 use rules::FlowRows;
@@ -12,55 +13,70 @@ use rules::LIST_NUMBERS;
 use rules::OUTPUT_NUMBERS;
 use text::Numeral;
 
+// The device after a line, and whether all that the line prints is written.
+pub struct Done {
+    pub device: Device,
+    pub written: bool,
+}
+
+// A line that is reported leaves the device.
+fn reported(d: Device) -> Done {
+    Done {
+        device: d,
+        written: true,
+    }
+}
+
 // link PORT UP
-fn link(d: Device, s: &[u8], line: u64) -> Device {
+fn link(d: Device, s: &[u8], line: u64) -> Done {
     let n = text::arguments(s, 3);
     if !n.good {
         print::complain(line, b"expected link PORT UP");
-        return d;
+        return reported(d);
     }
     if 1 < n.b {
         print::complain(line, b"UP is 0 or 1");
-        return d;
+        return reported(d);
     }
     let r = device::link(d, n.a, n.b == 1);
     let answer = r.answer;
-    print::answer(answers::number(answer));
-    print::end();
     let after = r.device;
-    after
+    Done {
+        device: after,
+        written: told::answer(answers::number(answer)),
+    }
 }
 
 // read WIDTH OFFSET
-fn read(d: Device, s: &[u8], line: u64) -> Device {
+fn read(d: Device, s: &[u8], line: u64) -> Done {
     let n = text::arguments(s, 3);
     if !n.good {
         print::complain(line, b"expected read WIDTH OFFSET");
-        return d;
+        return reported(d);
     }
     let r = device::read(d, n.b, n.a);
     let answer = r.answer;
-    print::answer(answers::number(answer));
-    print::value(r.value);
-    print::end();
     let after = r.device;
-    after
+    Done {
+        device: after,
+        written: told::value(answers::number(answer), r.value),
+    }
 }
 
 // write WIDTH OFFSET VALUE
-fn write(d: Device, s: &[u8], line: u64) -> Device {
+fn write(d: Device, s: &[u8], line: u64) -> Done {
     let n = text::arguments(s, 4);
     if !n.good {
         print::complain(line, b"expected write WIDTH OFFSET VALUE");
-        return d;
+        return reported(d);
     }
     let r = device::write(d, n.b, n.a, n.c);
     let answer = r.answer;
-    print::answer(answers::number(answer));
-    print::raised(r.interrupt);
-    print::end();
     let after = r.device;
-    after
+    Done {
+        device: after,
+        written: told::raised(answers::number(answer), r.interrupt),
+    }
 }
 
 // How many bytes of the buffer `work` or `header` may use.
@@ -85,17 +101,15 @@ fn worked(
     heads: &mut GroupHeads,
     members: &mut GroupMembers,
     order: &mut FlowOrder,
-) -> Device {
+) -> Done {
     let r = device::process(d, memory, buffer, flows, heads, members, order);
     let answer = r.answer;
-    print::answer(answers::number(answer));
-    print::raised(r.interrupt);
-    print::space();
-    let n = numbers::min(r.written, buffer.len());
-    print::bytes(&buffer[0..n]);
-    print::end();
     let after = r.device;
-    after
+    let n = numbers::min(r.written, buffer.len());
+    Done {
+        device: after,
+        written: told::record(answers::number(answer), r.interrupt, &buffer[0..n]),
+    }
 }
 
 // work ROOM
@@ -109,30 +123,29 @@ fn work(
     heads: &mut GroupHeads,
     members: &mut GroupMembers,
     order: &mut FlowOrder,
-) -> Device {
+) -> Done {
     let Counted::Bytes(size) = room(s, line) else {
-        return d;
+        return reported(d);
     };
     let n = numbers::min(size, buffer.len());
     worked(d, memory, &mut buffer[0..n], flows, heads, members, order)
 }
 
-fn headed(d: Device, buffer: &mut [u8]) -> Device {
+fn headed(d: Device, buffer: &mut [u8]) -> Done {
     let r = device::header(d, buffer);
     let answer = r.answer;
-    print::answer(answers::number(answer));
-    print::space();
-    let n = numbers::min(r.written, buffer.len());
-    print::bytes(&buffer[0..n]);
-    print::end();
     let after = r.device;
-    after
+    let n = numbers::min(r.written, buffer.len());
+    Done {
+        device: after,
+        written: told::header(answers::number(answer), &buffer[0..n]),
+    }
 }
 
 // header ROOM
-fn header(d: Device, s: &[u8], line: u64, buffer: &mut [u8]) -> Device {
+fn header(d: Device, s: &[u8], line: u64, buffer: &mut [u8]) -> Done {
     let Counted::Bytes(size) = room(s, line) else {
-        return d;
+        return reported(d);
     };
     let n = numbers::min(size, buffer.len());
     headed(d, &mut buffer[0..n])
@@ -168,16 +181,12 @@ fn forward(
     heads: &GroupHeads,
     members: &GroupMembers,
     order: &FlowOrder,
-) {
+) -> bool {
     let r = device::frame(d, port, f, list, flows, heads, members, order);
     let answer = r.answer;
     let n = r.outputs;
-    print::answer(answers::number(answer));
-    print::value(n as u64);
-    if n <= 113 {
-        print::numbers(list, OUTPUT_NUMBERS * n);
-    }
-    print::end();
+    let count = OUTPUT_NUMBERS * numbers::min(n, 113);
+    told::outputs(answers::number(answer), n as u64, list, count)
 }
 
 fn filled(
@@ -190,9 +199,9 @@ fn filled(
     heads: &GroupHeads,
     members: &GroupMembers,
     order: &FlowOrder,
-) {
+) -> bool {
     hex::bytes(digits, f);
-    forward(d, port, f, list, flows, heads, members, order);
+    forward(d, port, f, list, flows, heads, members, order)
 }
 
 // frame PORT HEX [LISTLEN]. The buffer holds the frame.
@@ -206,18 +215,18 @@ fn frame(
     heads: &GroupHeads,
     members: &GroupMembers,
     order: &FlowOrder,
-) {
+) -> bool {
     let Counted::Bytes(long) = list_length(s, line) else {
-        return;
+        return true;
     };
     let Numeral::Number(port) = text::argument(s, 1) else {
         print::complain(line, b"not a number of 64 bits");
-        return;
+        return true;
     };
     let digits = text::word(s, 2);
     let Counted::Bytes(count) = hex::count(digits) else {
         print::complain(line, b"malformed bytes");
-        return;
+        return true;
     };
     let n = numbers::min(count, buffer.len());
     let k = numbers::min(long, list.len());
@@ -231,11 +240,11 @@ fn frame(
         heads,
         members,
         order,
-    );
+    )
 }
 
 // A line that calls the device and needs no table.
-fn without_tables(d: Device, s: &[u8], line: u64, buffer: &mut [u8]) -> Device {
+fn without_tables(d: Device, s: &[u8], line: u64, buffer: &mut [u8]) -> Done {
     let name = text::word(s, 0);
     if check::same(name, b"link") {
         return link(d, s, line);
@@ -250,7 +259,18 @@ fn without_tables(d: Device, s: &[u8], line: u64, buffer: &mut [u8]) -> Device {
         return header(d, s, line, buffer);
     }
     print::complain(line, b"no call");
-    d
+    reported(d)
+}
+
+fn is_either(name: &[u8], one: &[u8], other: &[u8]) -> bool {
+    check::same(name, one) | check::same(name, other)
+}
+
+// Whether a word is the name of a call of the device.
+pub fn is_call(name: &[u8]) -> bool {
+    is_either(name, b"link", b"header")
+        | is_either(name, b"read", b"write")
+        | is_either(name, b"work", b"frame")
 }
 
 // A line that calls the device.
@@ -265,14 +285,16 @@ pub fn call(
     heads: &mut GroupHeads,
     members: &mut GroupMembers,
     order: &mut FlowOrder,
-) -> Device {
+) -> Done {
     let name = text::word(s, 0);
     if check::same(name, b"work") {
         return work(d, s, line, memory, buffer, flows, heads, members, order);
     }
     if check::same(name, b"frame") {
-        frame(d, s, line, buffer, list, flows, heads, members, order);
-        return d;
+        return Done {
+            device: d,
+            written: frame(d, s, line, buffer, list, flows, heads, members, order),
+        };
     }
     without_tables(d, s, line, buffer)
 }

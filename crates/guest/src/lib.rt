@@ -2,12 +2,14 @@
 
 use hex::Counted;
 use lines::print;
+use lines::told;
 use text::Numeral;
 
-// Whether a line spoke of memory, and memory's size after it.
+// Whether a line spoke of memory, memory's size after it, and whether all that it prints is written.
 pub struct Guest {
     pub taken: bool,
     pub size: usize,
+    pub written: bool,
 }
 
 fn clear(memory: &mut [u8]) {
@@ -64,55 +66,43 @@ fn poke(s: &[u8], line: u64, memory: &mut [u8]) {
 }
 
 // peek ADDR LEN
-fn peek(s: &[u8], line: u64, memory: &[u8]) {
+fn peek(s: &[u8], line: u64, memory: &[u8]) -> bool {
     let n = text::arguments(s, 3);
     if !n.good {
         print::complain(line, b"expected peek ADDR LEN");
-        return;
+        return true;
     }
     let size = memory.len() as u64;
     if size < n.b {
         print::complain(line, b"outside memory");
-        return;
+        return true;
     }
     if size - n.b < n.a {
         print::complain(line, b"outside memory");
-        return;
+        return true;
     }
     let start = n.a as usize;
     let end = (n.a + n.b) as usize;
-    print::bytes(&memory[start..end]);
-    print::end();
-}
-
-// A line that reaches into memory: whether it was one.
-fn reach(s: &[u8], line: u64, memory: &mut [u8]) -> bool {
-    let name = text::word(s, 0);
-    if check::same(name, b"poke") {
-        poke(s, line, memory);
-        return true;
-    }
-    if check::same(name, b"peek") {
-        peek(s, line, memory);
-        return true;
-    }
-    false
+    told::bytes(&memory[start..end])
 }
 
 // A line that speaks of memory, of which so many bytes are the guest's.
 pub fn call(size: usize, s: &[u8], line: u64, memory: &mut [u8]) -> Guest {
-    let name = text::word(s, 0);
-    if check::same(name, b"memory") {
-        let after = resize(size, s, line, memory);
-        return Guest {
-            taken: true,
-            size: after,
-        };
-    }
-    let n = numbers::min(size, memory.len());
-    let taken = reach(s, line, &mut memory[0..n]);
-    Guest {
-        taken: taken,
+    let mut g = Guest {
+        taken: true,
         size: size,
+        written: true,
+    };
+    let name = text::word(s, 0);
+    let n = numbers::min(size, memory.len());
+    if check::same(name, b"memory") {
+        g.size = resize(size, s, line, memory);
+    } else if check::same(name, b"poke") {
+        poke(s, line, &mut memory[0..n]);
+    } else if check::same(name, b"peek") {
+        g.written = peek(s, line, &memory[0..n]);
+    } else {
+        g.taken = false;
     }
+    g
 }

@@ -1,12 +1,12 @@
-// The lines of standard input, one at a time, and those of an outcome (`print`).
+// The lines of an input, one at a time, and those of an outcome: told whole (`told`), or in parts (`print`).
 
 pub mod print;
+pub mod told;
 
-use libc::STDIN_FILENO;
-
-// How far the bytes that were read are used up, and how many they are; the number of the line under way, its bytes so far, whether
-// it is too long and whether it is whole; whether there may be more to read.
+// Where the lines come from; how far the bytes that were read are used up, and how many they are; the number of the line under way, its
+// bytes so far, whether it is too long and whether it is whole; whether there may be more to read, and whether a read failed.
 pub struct Reader {
+    pub fd: i32,
     pub at: usize,
     pub got: usize,
     pub lines: u64,
@@ -14,10 +14,12 @@ pub struct Reader {
     pub long: bool,
     pub whole: bool,
     pub more: bool,
+    pub fails: bool,
 }
 
-pub fn start() -> Reader {
+pub fn start(fd: i32) -> Reader {
     Reader {
+        fd: fd,
         at: 0,
         got: 0,
         lines: 0,
@@ -25,6 +27,7 @@ pub fn start() -> Reader {
         long: false,
         whole: false,
         more: true,
+        fails: false,
     }
 }
 
@@ -55,9 +58,10 @@ fn copy(r: Reader, input: &[u8], line: &mut [u8]) -> Reader {
 
 fn refill(r: Reader, input: &mut [u8]) -> Reader {
     let mut q = r;
-    let got = libc::read(STDIN_FILENO, input);
+    let got = libc::read(r.fd, input);
     if got <= 0 {
         q.more = false;
+        q.fails = got < 0;
         return q;
     }
     q.at = 0;
@@ -72,7 +76,21 @@ fn step(r: Reader, input: &mut [u8], line: &mut [u8]) -> Reader {
     refill(r, input)
 }
 
-// The next line, without its end. A last one needs no newline; after it stands an empty one.
+// How long a line is without the CR before its LF.
+fn without_cr(line: &[u8], used: usize) -> usize {
+    if 0 < used {
+        let last = used - 1;
+        if last < line.len() {
+            if line[last] == b'\r' {
+                return last;
+            }
+        }
+    }
+    used
+}
+
+// The next line, without its end: LF, or CR LF. A last one needs no newline, and keeps a CR; after it stands an empty one. Where a read
+// fails, the line under way is not whole and is no line.
 pub fn take(r: Reader, input: &mut [u8], line: &mut [u8]) -> Reader {
     let mut q = r;
     q.lines = std::num::wrapping_add_u64(r.lines, 1);
@@ -83,6 +101,9 @@ pub fn take(r: Reader, input: &mut [u8], line: &mut [u8]) -> Reader {
     while turns > 0 && q.more && !q.whole {
         q = step(q, input, line);
         turns -= 1;
+    }
+    if q.whole {
+        q.used = without_cr(line, q.used);
     }
     q
 }

@@ -1,8 +1,9 @@
 // Runs a script of register calls on one device: a call a line on standard input, its outcome a line on standard output. A line
 // that cannot be understood is reported on standard error and passed over.
 use libc::STDERR_FILENO;
+use libc::STDIN_FILENO;
 use lines::Reader;
-use lines::print;
+use lines::told;
 use rules::Registers;
 use text::Numeral;
 
@@ -41,8 +42,7 @@ fn run_fresh(d: Registers, s: &[u8], line: u64) -> Registers {
     };
     let r = registers::fresh(ports, switch_id);
     let answer = r.answer;
-    print::answer(answers::number(answer));
-    print::end();
+    told::answer(answers::number(answer));
     if answers::number(answer) != 0 {
         return d;
     }
@@ -70,8 +70,7 @@ fn run_link(d: Registers, s: &[u8], line: u64) -> Registers {
     }
     let r = registers::link(d, port, up == 1);
     let answer = r.answer;
-    print::answer(answers::number(answer));
-    print::end();
+    told::answer(answers::number(answer));
     let after = r.registers;
     after
 }
@@ -92,9 +91,7 @@ fn run_read(d: Registers, s: &[u8], line: u64) {
     };
     let r = registers::read(d, offset, width);
     let answer = r.answer;
-    print::answer(answers::number(answer));
-    print::value(r.value);
-    print::end();
+    told::value(answers::number(answer), r.value);
 }
 
 // write WIDTH OFFSET VALUE
@@ -117,9 +114,7 @@ fn run_write(d: Registers, s: &[u8], line: u64) -> Registers {
     };
     let r = registers::write(d, offset, width, value);
     let answer = r.answer;
-    print::answer(answers::number(answer));
-    print::raised(r.interrupt);
-    print::end();
+    told::raised(answers::number(answer), r.interrupt);
     let after = r.registers;
     after
 }
@@ -176,7 +171,7 @@ fn turn(p: Script, input: &mut [u8; 4096], line: &mut [u8; 256]) -> Script {
 fn begin() -> Script {
     let none = registers::fresh(0, 0);
     let d = none.registers;
-    let reader = lines::start();
+    let reader = lines::start(STDIN_FILENO);
     Script {
         registers: d,
         reader: reader,

@@ -1,8 +1,12 @@
-// A script of calls on one device and its guest memory: a call a line on standard input, its outcome a line on standard output. A
-// line that is no call, or that cannot be carried out, is reported on standard error, and the script goes on.
+// A script of calls on one device and its guest memory: a call a line of an input, its outcome a line on standard output. A line that is
+// no call, or that cannot be carried out, is reported on standard error, and the script goes on. A read or a write that fails is reported
+// there too, and ends it.
 
+use libc::STDERR_FILENO;
+use libc::STDIN_FILENO;
 use lines::Reader;
 use lines::print;
+use lines::told;
 use rules::Device;
 use rules::FLOW_WORDS;
 use rules::FlowOrder;
@@ -14,14 +18,15 @@ use rules::MAX_FLOWS;
 use rules::MAX_GROUPS;
 use rules::MAX_MEMBERS;
 
-// The guest memory's size, and the device once there is one.
+// The guest memory's size, the device once there is one, and whether all that was printed is written.
 struct Console {
     memory: usize,
     made: bool,
     device: Device,
+    written: bool,
 }
 
-// A script under way; `more` as the reader says it.
+// A script under way, and whether it goes on.
 struct Script {
     console: Console,
     reader: Reader,
@@ -45,13 +50,12 @@ fn run_fresh(
     }
     let r = device::fresh(n.a, n.b, flows, heads, members, order);
     let answer = r.answer;
-    print::answer(answers::number(answer));
-    print::end();
+    let mut q = p;
+    q.written = told::answer(answers::number(answer));
     if answers::number(answer) != 0 {
-        return p;
+        return q;
     }
     let d = r.device;
-    let mut q = p;
     q.device = d;
     q.made = true;
     q
@@ -63,6 +67,15 @@ fn passed_over(s: &[u8]) -> bool {
         return true;
     }
     s[0] == b'#'
+}
+
+// Why a line that would call a device is none while there is no device.
+fn not_made(s: &[u8], line: u64) {
+    if calls::is_call(text::word(s, 0)) {
+        print::complain(line, b"no device");
+    } else {
+        print::complain(line, b"no call");
+    }
 }
 
 // A line that calls the device that there is.
@@ -79,12 +92,12 @@ fn run_call(
     order: &mut FlowOrder,
 ) -> Console {
     if !p.made {
-        print::complain(line, b"no device");
+        not_made(s, line);
         return p;
     }
     let d = p.device;
     let size = numbers::min(p.memory, memory.len());
-    let after = calls::call(
+    let done = calls::call(
         d,
         s,
         line,
@@ -96,8 +109,10 @@ fn run_call(
         members,
         order,
     );
+    let after = done.device;
     let mut q = p;
     q.device = after;
+    q.written = done.written;
     q
 }
 
@@ -118,6 +133,7 @@ fn run_line(
     if g.taken {
         let mut q = p;
         q.memory = g.size;
+        q.written = g.written;
         return q;
     }
     if check::same(text::word(s, 0), b"fresh") {
@@ -137,7 +153,7 @@ fn run_line(
     )
 }
 
-// The line that a reader has taken.
+// The line that a reader has taken. One that a failed read broke off is not run.
 fn run_taken(
     p: Console,
     r: Reader,
@@ -150,6 +166,9 @@ fn run_taken(
     members: &mut GroupMembers,
     order: &mut FlowOrder,
 ) -> Console {
+    if r.fails {
+        return p;
+    }
     if r.long {
         print::complain(r.lines, b"longer than 65535 bytes");
         return p;
@@ -204,11 +223,12 @@ fn turn(
     Script {
         console: console,
         reader: reader,
-        more: reader.more,
+        more: reader.more & console.written,
     }
 }
 
 fn begin(
+    fd: i32,
     flows: &mut FlowRows,
     heads: &mut GroupHeads,
     members: &mut GroupMembers,
@@ -216,26 +236,49 @@ fn begin(
 ) -> Script {
     let none = device::fresh(0, 0, flows, heads, members, order);
     let d = none.device;
-    let reader = lines::start();
+    let reader = lines::start(fd);
     Script {
         console: Console {
             memory: 0,
             made: false,
             device: d,
+            written: true,
         },
         reader: reader,
         more: true,
     }
 }
 
-// Runs the script on standard input to its end. A proved loop ends, and nothing says that the input does: the turns count down from
-// a number that no run uses up.
+// Names what could not be opened, read or written, on standard error, and says why.
+pub fn fail(what: &[u8]) {
+    io::write_all(STDERR_FILENO, b"console: ");
+    os::fail(what);
+}
+
+// Reports a write that failed, or a read.
+fn finish(t: Script, name: &[u8]) {
+    let p = t.console;
+    let r = t.reader;
+    if !p.written {
+        fail(b"standard output");
+    } else if r.fails {
+        fail(name);
+    }
+}
+
+// Runs the script on standard input.
 pub fn run() {
+    run_from(STDIN_FILENO, b"standard input");
+}
+
+// Runs the script of an input, by its descriptor and its name, to its end or to a read or a write that fails. A proved loop ends, and
+// nothing says that the input does: the turns count down from a number that no run uses up.
+pub fn run_from(fd: i32, name: &[u8]) {
     let mut flows = [[0u32; FLOW_WORDS]; MAX_FLOWS];
     let mut heads = [[0u32; HEAD_WORDS]; MAX_GROUPS];
     let mut members = [[0u16; MAX_MEMBERS]; MAX_GROUPS];
     let mut order = [0u8; MAX_FLOWS];
-    let mut t = begin(&mut flows, &mut heads, &mut members, &mut order);
+    let mut t = begin(fd, &mut flows, &mut heads, &mut members, &mut order);
     let mut input = [0u8; 65536];
     let mut line = [0u8; 65535];
     let mut memory = [0u8; 1048576];
@@ -257,4 +300,5 @@ pub fn run() {
         );
         turns -= 1;
     }
+    finish(t, name);
 }

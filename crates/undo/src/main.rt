@@ -15,28 +15,39 @@ use undoing::Undone;
 // More than the longest list has: 768 payloads, 203,264 bytes.
 const ROOM: usize = 204800;
 
+fn print_help() -> bool {
+    files::say(STDOUT_FILENO, b"undo N FILE OUT\n")
+        & files::say(
+            STDOUT_FILENO,
+            b"Writes to OUT the list of payloads which, carried out after the whole journal FILE (standard input where it is -),\n",
+        )
+        & files::say(
+            STDOUT_FILENO,
+            b"give back the tables that stood after its first N lines; N is decimal or, after 0x, hexadecimal, and has 64 bits.\n",
+        )
+        & files::say(
+            STDOUT_FILENO,
+            b"Each payload stands behind its length of 2 bytes. Prints how many payloads and bytes the list has;\n",
+        )
+        & files::say(
+            STDOUT_FILENO,
+            b"or, as 'refused 15' or 'refused 14 line 2', the first fault and its line (0: the header), and OUT is left as it was:\n",
+        )
+        & files::say(
+            STDOUT_FILENO,
+            b"10 cut short, 11 mark, 12 version, 13 port count, 14 the line disagrees with its replay, 15 fewer than N lines.\n",
+        )
+        & files::say(
+            STDOUT_FILENO,
+            b"./run undo ends with 0 where it is done, 1 where a refusal is printed, 2 where the work could not be done;\n",
+        )
+        & files::say(STDOUT_FILENO, b"the program alone always ends with 0.\n")
+}
+
 fn help() {
-    files::say(STDOUT_FILENO, b"undo N FILE OUT\n");
-    files::say(
-        STDOUT_FILENO,
-        b"Writes to OUT the list of payloads which, carried out after the whole journal FILE (standard input where it is -),\n",
-    );
-    files::say(
-        STDOUT_FILENO,
-        b"give back the tables that stood after its first N lines; N is decimal or, after 0x, hexadecimal, and has 64 bits.\n",
-    );
-    files::say(
-        STDOUT_FILENO,
-        b"Each payload stands behind its length of 2 bytes. Prints how many payloads and bytes the list has;\n",
-    );
-    files::say(
-        STDOUT_FILENO,
-        b"or, as 'refused 15' or 'refused 14 line 2', the first fault and its line (0: the header), and OUT is left as it was:\n",
-    );
-    files::say(
-        STDOUT_FILENO,
-        b"10 cut short, 11 mark, 12 version, 13 port count, 14 the line disagrees with its replay, 15 fewer than N lines.\n",
-    );
+    if !print_help() {
+        os::fail(b"standard output");
+    }
 }
 
 fn print(u: Undone) {
