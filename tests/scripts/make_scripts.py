@@ -730,6 +730,9 @@ def edges():
     s.add("memory 1048576", "poke 0 " + "ab" * 32764, "poke 0 " + "cd" * 32765, "peek 0 4", "#" * 65535, "#" * 65536, "peek 32760 8", "peek 1048575 1")
     s.note("A smaller memory, and a larger one again: every byte is 0.")
     s.add("memory 4", "peek 0 4", "poke 0 01020304", "peek 0 5", "memory 8", "peek 0 8", "memory 1048576", "peek 32760 8", "memory 0", "peek 0 0", "peek 0 1")
+    s.note("CR LF ends a line too: one CR directly before the LF is no part of it, any other is. It counts to the 65,535 bytes.")
+    s.add("read 8 0x0\r", "read 8 0x0\r\r", "read\r 8 0x0", "read 8\r 0x0\r", "\rread 8 0x0", "memory 32768\r", "poke 0 0a0b\r", "poke 1 0c\r\r", "peek 0 4\r",
+          "# a comment\r", "#\r", "poke 00 " + "ab" * 32763 + "\r", "peek 0 4", "poke 0 " + "cd" * 32764 + "\r", "peek 0 4", "header 6\r", "memory 0\r")
     return s
 
 

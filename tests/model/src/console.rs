@@ -3,6 +3,7 @@
 use crate::device::{inside, Calls, Device};
 use crate::frame::{LIST, NUMBERS};
 use crate::journal::LONGEST;
+use crate::misread::{misread, Label};
 use crate::registers::Refusal;
 use crate::tables::Tables;
 use std::fmt::Write as _;
@@ -75,9 +76,26 @@ fn vectors(raised: bool) -> &'static str {
     }
 }
 
-/// A line without its end, up to a limit; `None` for those that are passed over.
+/// A line that LF ended, without the CR directly before it.
+fn without_cr(line: &[u8]) -> &[u8] {
+    if misread(Label::CrKept) {
+        return line;
+    }
+    if misread(Label::CrsAllTaken) {
+        let kept = line.iter().rposition(|byte| *byte != b'\r');
+        return &line[..kept.map_or(0, |at| at + 1)];
+    }
+    line.strip_suffix(b"\r").unwrap_or(line)
+}
+
+/// A line as it was read, without its end: LF, or CR LF. Up to a limit, to which the CR counts; `None` for those that are passed over.
 fn text(line: &[u8], limit: usize) -> Result<Option<&str>, String> {
-    if line.len() > limit {
+    let (line, counted) = match line.strip_suffix(b"\n") {
+        Some(line) if misread(Label::CrNotCounted) => (without_cr(line), without_cr(line)),
+        Some(line) => (without_cr(line), line),
+        None => (line, line),
+    };
+    if counted.len() > limit {
         return Err(format!("line is over {limit} bytes"));
     }
     if line.is_empty() || line[0] == b'#' {
@@ -107,6 +125,7 @@ impl<D> Default for Driver<D> {
 }
 
 impl<D: Calls> Driver<D> {
+    /// A line with its end, where it has one.
     pub fn line(&mut self, line: &[u8]) -> Outcome {
         let Some(text) = text(line, LINE_LIMIT)? else {
             return Ok(None);
@@ -271,9 +290,6 @@ pub fn run(name: &str, mut call: impl FnMut(&[u8]) -> Outcome) -> io::Result<()>
         line.clear();
         if input.read_until(b'\n', &mut line)? == 0 {
             break;
-        }
-        if line.last() == Some(&b'\n') {
-            line.pop();
         }
         match call(&line) {
             Ok(Some(text)) => writeln!(output, "{text}")?,

@@ -1,5 +1,6 @@
-//! Misreadings: one sentence of the build description, or of the requests
-//! 2026-02, 2026-03, 2026-04 and 2026-05, taken in another sense.
+//! Misreadings: one sentence of the build description, of the requests
+//! 2026-02, 2026-03, 2026-04 and 2026-05, or of the console's line ends, taken
+//! in another sense.
 //!
 //! None is chosen unless the command line names one, and `misread` is then
 //! false everywhere: what a chapter says stands beside the question. They show
@@ -482,6 +483,11 @@ labels! {
     CopyVlanOfFrame "a copy has the VLAN that the frame came with"
     CopyPopOfNone "a copy of a frame without tag has POP_VLAN 0"
     CopyPop0 "copies of a list have POP_VLAN 0"
+
+    // The console's lines (docs/CONSOLE.md)
+    CrKept "a CR before the LF is part of the line"
+    CrsAllTaken "all CRs before the LF are no part of the line"
+    CrNotCounted "the CR before the LF does not count to the length of a line"
 
     // The trail
     HeaderVersionBigEndian "the version is written big-endian"

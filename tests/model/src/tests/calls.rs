@@ -311,6 +311,28 @@ fn the_console() {
 }
 
 #[test]
+fn line_ends() {
+    script(&[
+        ("fresh 4 1\n", "0"),
+        ("read 8 0x320\r\n", "0 1"),
+        ("read 8 0x320\r\r\n", "!"),
+        ("read 8 0x320\r", "!"),
+        ("read 8\r 0x320\r\n", "!"),
+        ("\n", ""),
+        ("\r\n", ""),
+        ("\r\r\n", "!"),
+        ("\r", "!"),
+        ("#\r\n", ""),
+    ]);
+    let mut console = Console::default();
+    let mut ended = |count, end: &str| console.line(&[&vec![b'#'; count], end.as_bytes()].concat());
+    assert!(ended(65_535, "\n").is_ok());
+    assert!(ended(65_536, "\n").is_err());
+    assert!(ended(65_534, "\r\n").is_ok());
+    assert!(ended(65_535, "\r\n").is_err());
+}
+
+#[test]
 fn register_calls_alone() {
     let mut calls = RegisterCalls::default();
     let mut line = |text: &str| calls.line(text.as_bytes());
