@@ -85,24 +85,28 @@ static void read_register(uint64_t width, uint64_t offset)
     struct rocker_outcome o;
     uint64_t value;
     uint32_t answer = rocker_read(&named, offset, width, &value);
-    same(call(ROCKER_READ, offset, width, 0, 0, 0, 0, &o) == answer && o.value == value && !o.raised && !o.completed && !o.bytes && !o.outputs);
+    same(call(ROCKER_READ, offset, width, 0, 0, 0, 0, &o) == answer && o.value == value);
+    same(!o.raised && !o.completed && !o.bytes && !o.outputs && !o.reset);
     printf("%" PRIu32 " %" PRIu64 "\n", answer, value);
 }
 
 static void write_register(uint64_t width, uint64_t offset, uint64_t value)
 {
-    struct rocker_outcome o;
-    uint64_t raised;
-    uint32_t answer = rocker_write(&named, offset, width, value, &raised);
-    same(call(ROCKER_WRITE, offset, width, value, 0, 0, 0, &o) == answer && o.raised == raised && !o.value && !o.completed && !o.bytes && !o.outputs);
-    printf("%" PRIu32 " %s\n", answer, raised ? "0" : "-");
+    struct rocker_outcome o, p;
+    uint32_t answer;
+    memset(&o, 9, sizeof o);
+    answer = rocker_write(&named, offset, width, value, &o);
+    same(call(ROCKER_WRITE, offset, width, value, 0, 0, 0, &p) == answer && memcmp(&o, &p, sizeof o) == 0);
+    same(!o.value && !o.completed && !o.bytes && !o.outputs);
+    printf("%" PRIu32 " %s\n", answer, o.raised ? "0" : "-");
 }
 
 static void set_link(uint64_t port, uint64_t up)
 {
     struct rocker_outcome o;
     uint32_t answer = rocker_link(&named, port, up);
-    same(call(ROCKER_LINK, port, up, 0, 0, 0, 0, &o) == answer && !o.value && !o.raised && !o.completed && !o.bytes && !o.outputs);
+    same(call(ROCKER_LINK, port, up, 0, 0, 0, 0, &o) == answer);
+    same(!o.value && !o.raised && !o.completed && !o.bytes && !o.outputs && !o.reset);
     printf("%" PRIu32 "\n", answer);
 }
 
@@ -133,7 +137,8 @@ static void frame_in(uint64_t port, size_t length, uint64_t room)
     struct rocker_outcome o;
     uint64_t outputs;
     uint32_t answer = rocker_frame(&named, port, frame, length, list[0], room, &outputs);
-    same(call(ROCKER_FRAME, port, 0, 0, length, 0, room, &o) == answer && o.outputs == outputs);
+    same(call(ROCKER_FRAME, port, 0, 0, length, 0, room, &o) == answer && o.outputs == outputs && !o.value && !o.raised && !o.completed
+         && !o.bytes && !o.reset);
     same(memcmp(list[0], list[1], 2 * ROCKER_OUTPUT * outputs) == 0);
     printf("%" PRIu32 " %" PRIu64, answer, outputs);
     for (uint64_t i = 0; i < ROCKER_OUTPUT * outputs; i++)
@@ -191,8 +196,13 @@ int main(void)
         char *words[5] = {line};
         size_t count = 1;
         line_number++;
-        line[strcspn(line, "\n")] = 0;
-        if (strlen(line) > 65535 || line[0] == 0 || line[0] == '#')
+        size_t end = strcspn(line, "\n");
+        if (end > 65535)
+            continue;
+        if (line[end] == '\n' && end > 0 && line[end - 1] == '\r')
+            end--;
+        line[end] = 0;
+        if (line[0] == 0 || line[0] == '#')
             continue;
         for (char *at = line; (at = strchr(at, ' ')) && count < 5; count++) {
             *at++ = 0;

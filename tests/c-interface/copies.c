@@ -106,7 +106,7 @@ static void registers(void)
     CHECK(rocker_read(&guest.device, CREDITS, 4, &value) == 0);
     end("read", 0, 0);
     begin();
-    CHECK(rocker_write(&guest.device, HEAD, 4, guest.head, &value) == 0);
+    CHECK(rocker_write(&guest.device, HEAD, 4, guest.head, &o) == 0);
     end("write", 0, 0);
     begin();
     CHECK(rocker_link(&guest.device, 62, 1) == 0);
@@ -158,15 +158,16 @@ static void title(const char *name)
 
 int main(void)
 {
-    uint64_t raised;
+    struct rocker_outcome o;
     title("bytes, 250 flows and 63 groups live");
     fresh();
     with_bridge(&guest);
     registers();
     bridging();
     begin();
-    CHECK(rocker_write(&guest.device, CONTROL, 4, 1, &raised) == 0);
+    CHECK(rocker_write(&guest.device, CONTROL, 4, 1, &o) == 0);
     end("write, reset", 0, 0);
+    CHECK(o.reset == 1);
     title("bytes, 250 routes, IPv4");
     with_routes(&guest, IPV4);
     routing(IPV4);

@@ -20,13 +20,20 @@ static uint32_t call(uint64_t kind, uint64_t a, uint64_t b)
 
 static int gives(uint64_t value, uint64_t bytes)
 {
-    return o.value == value && o.raised == 0 && o.completed == 0 && o.bytes == bytes && o.outputs == 0;
+    return o.value == value && o.raised == 0 && o.completed == 0 && o.bytes == bytes && o.outputs == 0
+        && o.reset == 0;
 }
 
 static uint64_t reads(uint64_t offset, uint64_t width)
 {
     uint64_t value;
     return rocker_read(d, offset, width, &value) == 0 ? value : UINT64_MAX;
+}
+
+static uint32_t writes(uint64_t offset, uint64_t width, uint64_t value)
+{
+    memset(&o, 9, sizeof o);
+    return rocker_write(d, offset, width, value, &o);
 }
 
 /* A frame of 64 bytes has one output, these numbers; what stood behind them in the list is kept. */
@@ -58,12 +65,52 @@ static void routed_and_bridged(void)
     CHECK(gives_one(&g.device, bridged));
 }
 
-int main(void)
+/* That a write resets the device is told where bit 0 of CONTROL is written by a width that it has, and nowhere else. */
+static void tells(uint64_t offset, uint64_t width, uint64_t value, uint32_t answer, uint64_t reset)
 {
-    static struct rocker zero, was;
-    uint64_t raised, outputs;
+    struct rocker_outcome other;
+    static struct rocker copy;
+    copy = *d;
+    CHECK(writes(offset, width, value) == answer && o.reset == reset);
+    memset(&other, 9, sizeof other);
+    CHECK(rocker_call(&copy, ROCKER_WRITE, offset, width, value, memory, sizeof memory, frame, sizeof frame, buffer, sizeof buffer, list,
+                      ROCKER_LIST, &other) == answer);
+    CHECK(memcmp(&o, &other, sizeof o) == 0 && memcmp(d, &copy, sizeof copy) == 0);
+}
 
-    /* A device of ones is written from its first to its last byte, and not beyond. */
+static void resets(void)
+{
+    static struct guest g;
+    uint64_t outputs;
+    with_routes(&g, IPV6);
+    frame_by_router(frame, IPV6, 62);
+    *d = g.device;
+    tells(CONTROL, 4, 0, 0, 0);
+    tells(CONTROL, 4, 2, 0, 0);
+    tells(CONTROL, 4, UINT64_MAX - 1, 0, 0);
+    tells(CONTROL, 4, (uint64_t)1 << 32, 0, 0);
+    tells(CONTROL, 8, 1, 1, 0);
+    tells(CONTROL, 2, 1, 1, 0);
+    tells(CONTROL + 1, 4, 1, 1, 0);
+    tells(CONTROL + 4, 4, 1, 0, 0);
+    tells(((uint64_t)1 << 32) + CONTROL, 4, 1, 1, 0);
+    tells(0x1014, 4, 1, 0, 0);
+    CHECK(rocker_frame(d, 1, frame, sizeof frame, list, ROCKER_LIST, &outputs) == 0 && outputs == 1);
+    for (uint64_t value = 1; value != 0; value <<= 13) { /* bit 0 beside others, also beyond 32 bits */
+        *d = g.device;
+        tells(CONTROL, 4, value | 1, 0, 1);
+        CHECK(reads(0x310, 8) == (UINT64_MAX >> 1) - 1 && reads(0x304, 4) == 62 && d->registers[14] == 0 && d->registers[15] == 0);
+        CHECK(writes(ENABLE, 8, UINT64_MAX) == 0 && o.reset == 0);
+        CHECK(rocker_frame(d, 1, frame, sizeof frame, list, ROCKER_LIST, &outputs) == 0 && outputs == 0);
+    }
+    tells(CONTROL, 4, 1, 0, 1); /* told again, also where there was nothing to empty */
+}
+
+static struct rocker zero, was;
+
+/* A device of ones is written from its first to its last byte, and not beyond. */
+static void made(void)
+{
     memset(ones, 1, sizeof ones);
     memset(&held, 1, sizeof held);
     was = *d;
@@ -75,8 +122,11 @@ int main(void)
     CHECK(memcmp(d->registers + 6, zero.registers + 6, sizeof zero.registers - 6 * sizeof zero.registers[0]) == 0);
     CHECK(rocker_fresh(d, 62, 7) == 0);
     CHECK(memcmp(held.before, ones, sizeof ones) == 0 && memcmp(held.after, ones, sizeof ones) == 0);
+}
 
-    /* Refused for its numbers: 2, and five zeros. */
+/* Refused for its numbers: 2, and six zeros. */
+static void by_kind(void)
+{
     was = *d;
     CHECK(call(6, 0, 0) == 2 && gives(0, 0));
     CHECK(call(UINT64_MAX, 0, 0) == 2 && gives(0, 0));
@@ -90,15 +140,19 @@ int main(void)
     CHECK(call(ROCKER_LINK, 62, 1) == 0 && gives(0, 0) && reads(0x310, 8) == (uint64_t)1 << 62);
     CHECK(call(ROCKER_READ, 0x320, 8) == 0 && gives(7, 0));
     CHECK(call(ROCKER_HEADER, 0, 0) == 0 && gives(0, 6) && memcmp(buffer, "RKT\3\0\76", 6) == 0);
+}
 
-    /* The same by the calls' names. */
+/* The same by the calls' names. */
+static void by_name(void)
+{
+    uint64_t outputs;
     was = *d;
     CHECK(rocker_link(d, 62, 2) == 2 && rocker_link(d, 0, 2) == 2 && rocker_link(d, 62, UINT64_MAX) == 2);
     CHECK(rocker_link(d, 0, 1) == 7 && rocker_link(d, ((uint64_t)1 << 32) + 1, 1) == 7 && memcmp(d, &was, sizeof was) == 0);
     CHECK(rocker_link(d, 62, 0) == 0 && reads(0x310, 8) == 0);
-    CHECK(rocker_write(d, 0x10, 4, 0x80000001, &raised) == 0 && raised == 0 && reads(0x10, 4) == 2);
-    CHECK(rocker_write(d, 0x1008, 4, 3, &raised) == 2 && raised == 0);
-    CHECK(rocker_write(d, 0x300, 4, 1, &raised) == 0 && reads(0x10, 4) == 0 && reads(0x320, 8) == 7);
+    CHECK(writes(0x10, 4, 0x80000001) == 0 && gives(0, 0) && reads(0x10, 4) == 2);
+    CHECK(writes(0x1008, 4, 3) == 2 && gives(0, 0));
+    CHECK(writes(0x300, 4, 1) == 0 && o.reset == 1 && reads(0x10, 4) == 0 && reads(0x320, 8) == 7);
     memset(&o, 9, sizeof o);
     CHECK(rocker_header(d, buffer, 5, &o) == 6 && gives(0, 0));
     memset(&o, 9, sizeof o);
@@ -110,13 +164,25 @@ int main(void)
     outputs = 9;
     CHECK(rocker_frame(d, 1, frame, sizeof frame, list, ROCKER_LIST - 1, &outputs) == 9 && outputs == 0);
     CHECK(memcmp(held.before, ones, sizeof ones) == 0 && memcmp(held.after, ones, sizeof ones) == 0);
+}
 
-    /* All zero is a device without ports. */
+/* All zero is a device without ports. */
+static void zeros(void)
+{
+    uint64_t outputs;
     *d = zero;
     CHECK(rocker_link(d, 1, 1) == 7 && rocker_frame(d, 1, frame, sizeof frame, list, ROCKER_LIST, &outputs) == 7);
     CHECK(rocker_process(d, memory, sizeof memory, buffer, sizeof buffer, &o) == 3);
     CHECK(memcmp(d, &zero, sizeof zero) == 0);
+}
 
+int main(void)
+{
+    made();
+    by_kind();
+    by_name();
+    zeros();
     routed_and_bridged();
+    resets();
     return 0;
 }

@@ -276,8 +276,8 @@ struct guest {
 
 static inline void write_register(struct guest *g, uint64_t offset, uint64_t width, uint64_t value)
 {
-    uint64_t raised;
-    CHECK(rocker_write(&g->device, offset, width, value, &raised) == 0);
+    struct rocker_outcome o;
+    CHECK(rocker_write(&g->device, offset, width, value, &o) == 0);
 }
 
 static inline void start(struct guest *g)

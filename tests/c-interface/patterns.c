@@ -21,7 +21,7 @@ struct given {
 
 static struct given named, called, before;
 static uint64_t seed = 1;
-static unsigned long answers[6][10], made[10], table_changes, bridged, routed, back;
+static unsigned long answers[6][10], made[10], table_changes, bridged, routed, back, resets;
 
 static uint64_t below(uint64_t n)
 {
@@ -262,7 +262,7 @@ static void random_frame(struct given *g)
 
 static bool is_zero(const struct rocker_outcome *o)
 {
-    return !o->value && !o->raised && !o->completed && !o->bytes && !o->outputs;
+    return !o->value && !o->raised && !o->completed && !o->bytes && !o->outputs && !o->reset;
 }
 
 /* What an accepted call may have changed, by its kind. */
@@ -299,13 +299,25 @@ static void check_outputs(uint64_t ingress, uint64_t outputs)
     }
 }
 
+/* Told exactly at an accepted write of CONTROL with bit 0 set. Then nothing is live, and no register but ports, switch ID and links is
+ * other than 0. */
+static void check_reset(bool is_reset, uint64_t told)
+{
+    const uint64_t *r = named.device->registers;
+    CHECK(told == is_reset);
+    resets += told;
+    for (unsigned k = 2; told && k < 20; k++)
+        CHECK(k == 5 ? (uint32_t)r[k] == (uint32_t)before.device->registers[k] : r[k] == 0);
+    CHECK(!told || (r[0] == before.device->registers[0] && r[1] == before.device->registers[1]));
+}
+
 static uint32_t by_name(uint64_t kind, uint64_t a, uint64_t b, uint64_t c, struct rocker_outcome *o)
 {
     struct given *g = &named;
     memset(o, 0, sizeof *o);
     switch (kind) {
     case ROCKER_READ: o->value = 9; return rocker_read(g->device, a, b, &o->value);
-    case ROCKER_WRITE: o->raised = 9; return rocker_write(g->device, a, b, c, &o->raised);
+    case ROCKER_WRITE: memset(o, 9, sizeof *o); return rocker_write(g->device, a, b, c, o);
     case ROCKER_LINK: return rocker_link(g->device, a, b);
     case ROCKER_PROCESS:
         memset(o, 9, sizeof *o);
@@ -331,6 +343,7 @@ static void call(uint64_t kind, uint64_t a, uint64_t b, uint64_t c)
     if (answer == 0) {
         check_changes(kind, &o);
         check_outputs(a, o.outputs);
+        check_reset(kind == ROCKER_WRITE && a == CONTROL && c % 2 == 1, o.reset);
     } else
         CHECK(is_zero(&o) && same(&named, &before) && same(&called, &before));
     answers[kind][answer]++;
@@ -418,6 +431,7 @@ int main(int count, char **words)
     CHECK(made[0] > 0 && made[7] > 0);
     printf("devices of any bytes: %lu, calls on them: %lu, tables changed: %lu\n", rounds, all, table_changes);
     printf("outputs: %lu bridged, %lu routed, %lu of them by the port that the frame came in at\n", bridged, routed, back);
-    CHECK(table_changes > 0 && bridged > 0 && routed > back && back > 0);
+    printf("writes that reset the device, and told it: %lu\n", resets);
+    CHECK(resets > 0 && table_changes > 0 && bridged > 0 && routed > back && back > 0);
     return 0;
 }

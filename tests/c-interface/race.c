@@ -112,8 +112,8 @@ static unsigned two(const uint8_t *at)
 
 static void set(uint64_t offset, uint64_t width, uint64_t value)
 {
-    uint64_t raised;
-    CHECK(rocker_write(&device, offset, width, value, &raised) == 0);
+    struct rocker_outcome o;
+    CHECK(rocker_write(&device, offset, width, value, &o) == 0 && o.reset == 0);
 }
 
 static FILE *opened(const char *folder, const char *name, unsigned n)
@@ -148,7 +148,7 @@ static size_t process(unsigned slot, bool *ok)
     completed = two(buffer);
     CHECK(o.completed == completed && completed == two(memory + 32 * slot + 30));
     CHECK(o.bytes >= 6 && o.bytes <= 6 + LONGEST && two(buffer + 2) == o.bytes - 6 && two(buffer + 4) == slot);
-    CHECK(o.raised == 1 && o.value == 0 && o.outputs == 0);
+    CHECK(o.raised == 1 && o.value == 0 && o.outputs == 0 && o.reset == 0);
     for (unsigned i = 0; i < BEYOND; i++)
         CHECK(buffer[6 + LONGEST + i] == 0x77);
     CHECK(completed >= 0x8000 && completed < 0x8000 + 256);

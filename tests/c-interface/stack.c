@@ -26,7 +26,7 @@ static uint32_t by_name(void)
     struct rocker *d = &guest.device;
     switch (asked.kind) {
     case ROCKER_READ: return rocker_read(d, asked.a, asked.b, &outcome.value);
-    case ROCKER_WRITE: return rocker_write(d, asked.a, asked.b, asked.c, &outcome.raised);
+    case ROCKER_WRITE: return rocker_write(d, asked.a, asked.b, asked.c, &outcome);
     case ROCKER_LINK: return rocker_link(d, asked.a, asked.b);
     case ROCKER_PROCESS: return rocker_process(d, guest.memory, sizeof guest.memory, guest.buffer, sizeof guest.buffer, &outcome);
     case ROCKER_FRAME: return rocker_frame(d, asked.a, frame, sizeof frame, list, ROCKER_LIST, &outcome.outputs);
@@ -179,6 +179,7 @@ static void refused_and_reset(void)
     write_register(&guest, BASE_ADDR, 8, MEMORY);
     call((struct asked){"process, refused", BY_NAME, ROCKER_PROCESS, 0, 0, 0, 3});
     call((struct asked){"write, reset", BY_NAME, ROCKER_WRITE, CONTROL, 4, 1, 0});
+    CHECK(outcome.reset == 1);
 }
 
 int main(void)
