@@ -52,6 +52,6 @@ impl Plain {
 
 pub fn search(device: &Kept, port: u32, headers: &Headers) -> Way {
     let mut way = [0; 3];
-    unsafe { ordered_way(device.flows, device.live, device.order, &device.firsts, port, headers, &mut way) };
+    unsafe { ordered_way(&device.flows, device.live, &device.order, &device.firsts, port, headers, &mut way) };
     way
 }
