@@ -11,6 +11,7 @@ import re
 import shutil
 import struct
 import subprocess
+import sys
 import tempfile
 import threading
 import time
@@ -53,16 +54,16 @@ class Disagreement(Exception):
 
 
 def build():
-    """The programs and the archive where they are missing, and what cargo builds (it says itself whether there is anything to do)."""
-    missing = [pathlib.Path(path).name for path in (CONSOLE, REPLAY, UNDO, UNDO_RUN) if not pathlib.Path(path).exists()]
-    if missing:
-        print(f"building {', '.join(missing)} and proving what they stand on; this takes some minutes the first time", flush=True)
-        subprocess.run(["rt", "check", *missing], cwd=ROOT, check=True)
-    if not ARCHIVE.exists():
-        print(f"building {ARCHIVE.relative_to(ROOT)} and proving what it stands on", flush=True)
-        subprocess.run(["rt", "staticlib", "capi"], cwd=ROOT, check=True)
+    """The programs and the archive, and what cargo builds; each says itself whether there is anything to do."""
+    bring_up_to_date(*(pathlib.Path(path).name for path in (CONSOLE, REPLAY, UNDO, UNDO_RUN, ARCHIVE)))
     build_package("tests/model")
     build_package("tests/interface")
+
+
+def bring_up_to_date(*names):
+    """Programs and archives, as `run` does it: what has changed since they were built is proved and built again."""
+    if subprocess.run([ROOT / "shell/build", *names]).returncode != 0:
+        sys.exit(2)
 
 
 def build_package(path):
@@ -102,8 +103,9 @@ def version(journal):
 # ---- Scripts and their outcomes
 
 def lines_of(data):
-    lines = data.split(b"\n")
-    return lines if lines[-1] else lines[:-1]
+    """The lines of a script or of what was printed. One CR before the LF is no part of a line; a last line needs no LF."""
+    *lines, last = data.split(b"\n")
+    return [line.removesuffix(b"\r") for line in lines] + ([last] if last else [])
 
 
 def calls_in(script):

@@ -22,6 +22,13 @@ EVENINGS, OLD, LISTS, REFUSALS, ROOMS, PAYLOADS = COUNTED
 WAYS = ("FILE", "- < FILE", "- |")
 
 
+def bring_up_to_date(**paths):
+    """The programs of target/bin, as far as they are there and no other path is given for one."""
+    names = [name for name in ("undo", "undo_run", "console", "replay") if not paths.get(name) and (harness.ROOT / "target/bin" / name).exists()]
+    if names:
+        harness.bring_up_to_date(*names)
+
+
 class Programs:
     """The words that run each program: that of a path, or the model where there is none."""
 
