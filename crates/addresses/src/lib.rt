@@ -1,5 +1,8 @@
 // Addresses and prefixes (rules, specs/Address.antt). An address of 32 or 128 bits stands in the upper bits of two words of 64, so that one
 // comparison of first bits serves both widths; a mask is known by its length.
+
+#![tactic(auto)]
+
 ghost use Rattle.std.specs.Prelude.{◌≡◌, min, ◌+◌, ◌*◌, ◌-◌, ◌/◌, ◌^◌, ◌≤◌};
 ghost use Rattle.rules.specs.Address.{prefix_mask, prefix_length, agree, is_ipv6, is_routed_type, address_bits, address_in, is_unicast};
 

@@ -1,4 +1,7 @@
 // The numbers that document 01 gives to answers and statuses.
+
+#![tactic(auto)]
+
 ghost use Rattle.std.specs.Prelude.{◌≡◌};
 ghost use Rattle.rules.specs.Answers.{number, code};
 

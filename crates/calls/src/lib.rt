@@ -1,13 +1,15 @@
 // The calls of a device, each from its line: its numbers are handed over as they are, and its outcome is printed. A line that is no call is
 // reported.
 
-use hex::Counted;
+#![tactic(auto)]
+
+use hexadecimal::Counted;
 use lines::{print, told};
 use rules::{Device, FlowOrder, FlowRows, GroupHeads, GroupMembers, LIST_NUMBERS, OUTPUT_NUMBERS};
 use text::Numeral;
 
 // The device after a line, and whether all that the line prints is written.
-#[derive(Drop)]
+#[derive(Clone, Copy)]
 pub struct Done {
     pub device: Device,
     pub written: bool,
@@ -194,7 +196,7 @@ fn filled(
     members: &GroupMembers,
     order: &FlowOrder,
 ) -> bool {
-    hex::bytes(digits, f);
+    hexadecimal::bytes(digits, f);
     forward(d, port, f, list, flows, heads, members, order)
 }
 
@@ -218,7 +220,7 @@ fn frame(
         return true;
     };
     let digits = text::word(s, 2);
-    let Counted::Bytes(count) = hex::count(digits) else {
+    let Counted::Bytes(count) = hexadecimal::count(digits) else {
         print::complain(line, b"malformed bytes");
         return true;
     };

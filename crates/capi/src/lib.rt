@@ -4,6 +4,8 @@
 // No enum crosses the boundary: a request comes in as numbers, an answer goes out as its number of document 01. No bool is held either, so
 // the functions are right whatever bytes they are handed.
 
+#![tactic(auto)]
+
 ghost use Rattle.std.specs.Prelude.{◌≡◌, List, ℕ};
 ghost use Rattle.rules.specs.Answers.{number};
 ghost use Rattle.rules.specs.Switch.{Storage, storage, Borrowed, switch_of, step};

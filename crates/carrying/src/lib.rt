@@ -1,5 +1,8 @@
 // A decoded payload carried out on the device's tables: `execute`, and the flows' order with it. A flow command seeks its cookie once, then
 // changes the order by the flows as they are, and then the flows.
+
+#![tactic(auto)]
+
 ghost use Rattle.std.specs.Prelude.{◌+◌, ◌-◌, ◌<◌, ◌≤◌, ◌≡◌, length};
 ghost use Rattle.rules.specs.Limits.{max_flows};
 ghost use Rattle.rules.specs.Places.{places, live};
@@ -18,7 +21,7 @@ use rules::{
 };
 
 // A flow command's status, the number of live flows after it, and where tables begin in their order.
-#[derive(Drop)]
+#[derive(Clone, Copy)]
 pub struct Followed {
     pub status: Status,
     pub count: usize,
@@ -26,7 +29,7 @@ pub struct Followed {
 }
 
 // What carrying a payload out gives: its status, and the small part of the tables after it.
-#[derive(Drop)]
+#[derive(Clone, Copy)]
 pub struct CarriedOut {
     pub status: Status,
     pub counts: Counts,

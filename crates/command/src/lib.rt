@@ -1,4 +1,7 @@
 // A payload decoded: what it asks for, or the status of its first fault. Every function is equal to a rule of `rules`.
+
+#![tactic(auto)]
+
 ghost use Rattle.std.specs.Prelude.{◌≡◌, List, ℕ, ◌≤◌, ◌<◌};
 ghost use Rattle.rules.specs.Bytes.{swap16};
 ghost use Rattle.rules.specs.Fields.{rule_of, value};

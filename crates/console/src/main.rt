@@ -1,4 +1,7 @@
 // console [FILE]: runs a script of calls, a file or standard input (docs/CONSOLE.md).
+
+#![tactic(auto)]
+
 use libc::{STDERR_FILENO, STDOUT_FILENO};
 
 fn say(line: &[u8]) -> bool {

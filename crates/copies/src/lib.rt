@@ -1,4 +1,7 @@
 // One output (document 01: copies), written into a list unless it is left out.
+
+#![tactic(auto)]
+
 ghost use Rattle.std.specs.Prelude.{◌+◌, ◌*◌, ◌≤◌, ◌≡◌, true, not, ◌&&◌, ◌||◌, eqb, length};
 ghost use Rattle.rules.specs.Choose.{choose};
 ghost use Rattle.rules.specs.Limits.{output_numbers};
@@ -10,7 +13,7 @@ ghost use Rattle.copies.specs.Copies.{rewrite_in, output_to, Sends};
 use rules::{OUTPUT_NUMBERS, Registers};
 
 // How a frame leaves by a group: its VLAN, and where it is routed its new MACs, in wire order. Where it is not, these have no meaning.
-#[derive(Drop)]
+#[derive(Clone, Copy)]
 pub struct Rewrite {
     pub vlan: u16,
     pub src_mac: u64,

@@ -1,4 +1,7 @@
 // The flow that decides in each table, by the order in which flows decide, and a frame's way through the tables, over lent rows.
+
+#![tactic(auto)]
+
 ghost use Rattle.std.specs.Prelude.{◌<◌, ◌≡◌, false, not, ◌&&◌, ◌||◌, eqb};
 ghost use Rattle.rules.specs.Choose.{choose};
 ghost use Rattle.rules.specs.Frame.{exit_of, from_table50, from_table30, from_table20, way_of};
@@ -9,7 +12,7 @@ use rules::{Firsts, FlowEntry, FlowOrder, FlowRows};
 
 // What the tables look at in a frame. `routable`: it is long enough for its EtherType's header, which has the address; that stands in the upper
 // bits of two words.
-#[derive(Drop)]
+#[derive(Clone, Copy)]
 pub struct Headers {
     pub mac: u64,
     pub address_high: u64,
@@ -20,7 +23,7 @@ pub struct Headers {
 }
 
 // How a frame leaves the tables: its VLAN and the group that is named, where it does.
-#[derive(Drop)]
+#[derive(Clone, Copy)]
 pub struct WayOut {
     pub found: bool,
     pub vlan: u16,
@@ -28,7 +31,7 @@ pub struct WayOut {
 }
 
 // The place of the flow that decides, where there is one.
-#[derive(Drop)]
+#[derive(Clone, Copy)]
 pub struct Hit {
     pub found: bool,
     pub at: usize,

@@ -2,6 +2,8 @@
 // lent, to the calls that need them, and changed where they stand. Every call answers with a number of document 01 and has the whole outcome
 // in its contract: the answer, the device after it, each word of the tables and each borrowed byte.
 
+#![tactic(auto)]
+
 ghost use Rattle.std.specs.Prelude.{◌≡◌, List, ℕ};
 ghost use Rattle.rules.specs.Choose.{choose};
 ghost use Rattle.rules.specs.Registers.{terms_of};
@@ -19,7 +21,7 @@ use rules::{
 // What a call gives: the answer; what it tells (`told_by`), which is the value that a read gives, whether vector 0 was raised, the
 // completion that process wrote (0 for none), how many bytes were written into the buffer, how many outputs into the list, and whether the
 // device was reset, so that its journal begins anew; and the device after it.
-#[derive(Drop)]
+#[derive(Clone, Copy)]
 pub struct Called {
     pub answer: Answer,
     pub value: u64,
@@ -32,7 +34,7 @@ pub struct Called {
 }
 
 // What `fresh` gives. Refused, the struct is all zero, and no device.
-#[derive(Drop)]
+#[derive(Clone, Copy)]
 pub struct Made {
     pub answer: Answer,
     pub device: Device,

@@ -1,4 +1,7 @@
 // The frame call. It has no `requires`: whatever the registers and tables hold, it gives exactly what the rules say.
+
+#![tactic(auto)]
+
 ghost use Rattle.std.specs.Prelude.{◌≤◌, ◌≡◌, length};
 ghost use Rattle.rules.specs.Tables.{live_flows, live_groups};
 ghost use Rattle.rules.specs.Engine.{decides_first};
@@ -13,7 +16,7 @@ use rules::{
 };
 
 // What a frame call gives: the answer, and how many outputs (document 01: copies) stand at the start of the list.
-#[derive(Drop)]
+#[derive(Clone, Copy)]
 pub struct Framed {
     pub answer: Answer,
     pub outputs: usize,

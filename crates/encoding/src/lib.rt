@@ -1,4 +1,7 @@
 // Payloads written (rules, specs/Encode.antt): a flow or a group as its fields in rising type, behind the number of a command.
+
+#![tactic(auto)]
+
 ghost use Rattle.std.specs.Prelude.{◌≡◌, ◌+◌, ◌*◌, ◌-◌, ◌/◌, ◌^◌, ◌≤◌, ◌<◌, false, length, take, get_or};
 ghost use Rattle.rules.specs.Choose.{choose};
 ghost use Rattle.rules.specs.Bytes.{bytes_of, splice, swap16, swapped};

@@ -1,4 +1,7 @@
 // A decoded payload carried out on the tables, where they stand: its status, and how many entries are live after it.
+
+#![tactic(auto)]
+
 ghost use Rattle.std.specs.Prelude.{ℕ, List, ◌≡◌};
 ghost use Rattle.rules.specs.Tables.{arrays, tables_of, stored_flow, flow_entry, group_entry, carry_out};
 ghost use Rattle.execute.specs.Outcome.{Executes, Commands, OnGroups};
@@ -12,7 +15,7 @@ use rules::{
 use tables::Counted;
 
 // A payload's status, and how many places of each table are live after it.
-#[derive(Drop)]
+#[derive(Clone, Copy)]
 pub struct Executed {
     pub status: Status,
     pub counts: Counts,

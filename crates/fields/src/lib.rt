@@ -1,5 +1,8 @@
 // The table of fields, and a CMD_INFO's fields looked up by it in the region's index. Every function is equal to a rule of `rules`;
 // `header` is how many header bytes a length counts.
+
+#![tactic(auto)]
+
 ghost use Rattle.std.specs.Prelude.{◌≡◌, ℕ, ◌+◌, ◌*◌, ◌^◌, ◌≤◌, ◌<◌, get_or};
 ghost use Rattle.rules.specs.Bytes.{swapped};
 ghost use Rattle.rules.specs.declared.FieldRule.{FieldRule};

@@ -1,4 +1,7 @@
 // What the index of a region says of a type, and what a value holds. Every function is equal to a rule of `rules`.
+
+#![tactic(auto)]
+
 ghost use Rattle.std.specs.Prelude.{◌≡◌, min, ◌<◌, ◌+◌, ◌*◌, ◌^◌};
 ghost use Rattle.rules.specs.Bytes.{swapped, part};
 ghost use Rattle.rules.specs.Region.{lookup};

@@ -1,4 +1,7 @@
 // A group ID taken apart by shifts and masks. Every function is equal to a rule of `rules`.
+
+#![tactic(auto)]
+
 ghost use Rattle.std.specs.Prelude.{◌≡◌};
 ghost use Rattle.rules.specs.Version.{routes};
 ghost use Rattle.rules.specs.GroupId.{group_type, group_vlan, group_low, vlan_allowed, has_members, is_routing, group_id_allowed};

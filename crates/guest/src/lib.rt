@@ -1,11 +1,13 @@
 // Guest memory: the lines that size it, write it and read it.
 
-use hex::Counted;
+#![tactic(auto)]
+
+use hexadecimal::Counted;
 use lines::{print, told};
 use text::Numeral;
 
 // Whether a line spoke of memory, memory's size after it, and whether all that it prints is written.
-#[derive(Drop)]
+#[derive(Clone, Copy)]
 pub struct Guest {
     pub taken: bool,
     pub size: usize,
@@ -47,7 +49,7 @@ fn poke(s: &[u8], line: u64, memory: &mut [u8]) {
         return;
     };
     let digits = text::word(s, 2);
-    let Counted::Bytes(n) = hex::count(digits) else {
+    let Counted::Bytes(n) = hexadecimal::count(digits) else {
         print::complain(line, b"malformed bytes");
         return;
     };
@@ -62,7 +64,7 @@ fn poke(s: &[u8], line: u64, memory: &mut [u8]) {
     }
     let start = at as usize;
     let end = start + n;
-    hex::bytes(digits, &mut memory[start..end]);
+    hexadecimal::bytes(digits, &mut memory[start..end]);
 }
 
 // peek ADDR LEN

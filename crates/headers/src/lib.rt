@@ -1,4 +1,7 @@
 // What is read of a frame: whether it is one, and what the tables look at in it. Bytes past its end read as 0.
+
+#![tactic(auto)]
+
 ghost use Rattle.std.specs.Prelude.{◌+◌, ◌≤◌, ◌≡◌, leb, length, get_or};
 ghost use Rattle.rules.specs.Choose.{choose};
 ghost use Rattle.rules.specs.Bytes.{le_at, swap16};

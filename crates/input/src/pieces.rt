@@ -3,7 +3,7 @@ ghost use Rattle.std.specs.Prelude.{◌≤◌, length};
 ghost use Rattle.input.specs.Input.{Fills, Moves};
 
 // What a read answered, and where the bytes end that are there now.
-#[derive(Drop)]
+#[derive(Clone, Copy)]
 pub struct Filled {
     pub got: isize,
     pub end: usize,

@@ -1,6 +1,9 @@
 // input_run FILE..: replays each file, or standard input for `-`, and prints what it comes to, or that it cannot be read. A file is read
 // again through the smallest buffer, so that nearly each record crosses a read, and again while it grows: each read then brings a few bytes
 // and is not the end.
+
+#![tactic(auto)]
+
 ghost use Rattle.std.specs.Prelude.{◌≤◌, length};
 ghost use Rattle.replaying.specs.Replaying.{longest};
 

@@ -1,11 +1,13 @@
 // The lines of an input, one at a time, and those of an outcome: told whole (`told`), or in parts (`print`).
 
+#![tactic(auto)]
+
 pub mod print;
 pub mod told;
 
 // Where the lines come from; how far the bytes that were read are used up, and how many they are; the number of the line under way, its
 // bytes so far, whether it is too long and whether it is whole; whether there may be more to read, and whether a read failed.
-#[derive(Drop)]
+#[derive(Clone, Copy)]
 pub struct Reader {
     pub fd: i32,
     pub at: usize,

@@ -5,7 +5,7 @@ ghost use Rattle.std.specs.Prelude.{◌<◌, ◌≤◌};
 use libc::STDOUT_FILENO;
 
 // How many bytes wait in the buffer, and whether all before them is written.
-#[derive(Drop)]
+#[derive(Clone, Copy)]
 pub struct Gathered {
     pub used: usize,
     pub written: bool,
@@ -80,7 +80,7 @@ fn vector(g: Gathered, text: &mut [u8], interrupt: bool) -> Gathered {
 }
 
 fn spelled(g: Gathered, text: &mut [u8], s: &[u8], digits: &mut [u8]) -> Gathered {
-    hex::spell(s, digits);
+    hexadecimal::spell(s, digits);
     put(g, text, digits)
 }
 

@@ -1,5 +1,8 @@
 // The list of payloads that gives earlier tables back (rules, specs/Undo.antt): six runs, each over one table in rising order of its key. A
 // run asks for the entry with the least key above the last one's, so that it does not hang on how a table is stored.
+
+#![tactic(auto)]
+
 ghost use Rattle.std.specs.Prelude.{◌≡◌, ◌≤◌, ◌<◌, length};
 ghost use Rattle.rules.specs.Keyed.{Rising};
 ghost use Rattle.rules.specs.Tables.{cookie_of, id_of, arrays, tables_of, live_flows, live_groups};
@@ -11,7 +14,7 @@ use encoding::LONGEST;
 use rules::{Counts, FlowEntry, FlowRows, GroupEntry, GroupHeads, GroupMembers};
 
 // A list so far: how many payloads, and how many bytes with their lengths.
-#[derive(Drop)]
+#[derive(Clone, Copy)]
 pub struct Listed {
     pub count: u64,
     pub size: usize,
@@ -58,7 +61,7 @@ fn add_group(out: &mut [u8], so_far: Listed, command: u16, e: GroupEntry) -> Lis
 // ---- Runs
 
 // One step of a run: the list after it, whether there was an entry to look at, and the entry's key.
-#[derive(Drop)]
+#[derive(Clone, Copy)]
 pub struct Step {
     pub listed: Listed,
     pub more: bool,

@@ -1,4 +1,7 @@
 // The members in GROUP_IDS: in order, counted, distinct, of type 0 and of the group's VLAN.
+
+#![tactic(auto)]
+
 ghost use Rattle.std.specs.Prelude.{◌≡◌, Bool, true, ◌||◌, [], ◌∷◌, ℕ, ◌≤◌, take, ltb};
 ghost use Rattle.tlv.specs.Index.{stops};
 ghost use Rattle.rules.specs.Members.{elem, member_right, members_in};
@@ -10,7 +13,7 @@ use rules::{MAX_MEMBERS, Step, Tlv};
 use tlv::reader;
 
 // Whether a member list is right for its count, and the members' low bits, those past the last 0.
-#[derive(Drop)]
+#[derive(Clone, Copy)]
 pub struct Members {
     pub right: bool,
     pub lows: [u16; MAX_MEMBERS],

@@ -2,6 +2,8 @@
 // after each of the three. The script is `stdin`, and `stdout` is what the second implementation of the device prints for it
 // (docs/UNDO.md).
 
+#![tactic(auto)]
+
 fn main() {
     script::run();
 }

@@ -1,4 +1,7 @@
 // Numbers, for all crates.
+
+#![tactic(auto)]
+
 ghost use Rattle.std.specs.Prelude.{◌≡◌, min};
 
 // The smaller of two numbers: a count beyond what there is counts as all of it.

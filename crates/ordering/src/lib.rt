@@ -1,5 +1,8 @@
 // The order in which flows decide, kept beside their places as an index, a byte a flow (rules, specs/Engine.antt). A slot is a position in the
 // order, a place one among the flows.
+
+#![tactic(auto)]
+
 ghost use Rattle.std.specs.Prelude.{◌+◌, ◌-◌, ◌<◌, ◌≤◌, map, ◌≡◌, length, take};
 ghost use Rattle.rules.specs.Limits.{max_flows};
 ghost use Rattle.rules.specs.Keyed.{insert_at, without};

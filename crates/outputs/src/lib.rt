@@ -1,4 +1,7 @@
 // A group's outputs (document 01: copies), resolved and written into a list.
+
+#![tactic(auto)]
+
 ghost use Rattle.std.specs.Prelude.{◌≤◌, ◌≡◌, true, [], ltb, length};
 ghost use Rattle.rules.specs.Choose.{choose};
 ghost use Rattle.rules.specs.GroupId.{group_type, member_id};
@@ -13,7 +16,7 @@ use copies::Rewrite;
 use rules::{GroupEntry, GroupHeads, GroupMembers, LIST_NUMBERS, MAX_MEMBERS, Registers};
 
 // The groups of type 0 that a group stands for, by their VLAN and their low 16 bits in order, and how a frame leaves by them.
-#[derive(Drop)]
+#[derive(Clone, Copy)]
 pub struct Members {
     pub vlan: u16,
     pub count: usize,
@@ -22,7 +25,7 @@ pub struct Members {
 }
 
 // Where the search for an ID ended, and whether the ID stands there.
-#[derive(Drop)]
+#[derive(Clone, Copy)]
 struct Place {
     at: usize,
     held: bool,

@@ -1,5 +1,8 @@
 // Of two tables, what one has that the other has not or has otherwise; and a table gone over in rising order of its key, by the least key
 // above the last one (rules, specs/Undo.antt).
+
+#![tactic(auto)]
+
 ghost use Rattle.std.specs.Prelude.{◌≡◌, length};
 ghost use Rattle.rules.specs.Keyed.{find};
 ghost use Rattle.rules.specs.Limits.{max_flows, max_groups};
@@ -93,7 +96,7 @@ pub fn picks_group(
 // ---- In rising order
 
 // Where the entry with the least key above one stands, and how many entries are live: at the end there is none.
-#[derive(Drop)]
+#[derive(Clone, Copy)]
 pub struct Next {
     pub at: usize,
     pub live: usize,

@@ -1,6 +1,9 @@
 // The rules' plain engine in code, "an unordered store with a full scan" (request 2026-05): the reference that tests and the benchmark
 // hold the device to. No crate of the device stands on it. The exported functions are for their programs, by numbers and over pointers; the
 // device's own search is among them, so that both are called in the same way.
+
+#![tactic(auto)]
+
 ghost use Rattle.std.specs.Prelude.{◌≡◌};
 ghost use Rattle.rules.specs.Rows.{entry_in};
 ghost use Rattle.rules.specs.Places.{places};

@@ -11,7 +11,7 @@ use deciding::{Headers, Hit, WayOut};
 use rules::{FlowEntry, FlowRows};
 
 // What decides in tables 0 and 10, which are scanned in one go, and whether table 20 has a flow.
-#[derive(Drop)]
+#[derive(Clone, Copy)]
 struct Hits {
     first: Hit,
     second: Hit,

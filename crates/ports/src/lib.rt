@@ -1,4 +1,7 @@
 // Ports and their bitmaps: bit p stands for port p.
+
+#![tactic(auto)]
+
 ghost use Rattle.std.specs.Prelude.{◌≡◌, ◌<◌};
 ghost use Rattle.rules.specs.Bytes.{bit};
 ghost use Rattle.rules.specs.Registers.{port_bits, port_count_allowed, port_allowed, link_effect, is_up};

@@ -1,4 +1,7 @@
 // The ranges of what a command's fields hold. Every function is equal to a rule of `rules`.
+
+#![tactic(auto)]
+
 ghost use Rattle.std.specs.Prelude.{◌≡◌, Bool, ℕ};
 ghost use Rattle.rules.specs.Decode.{group_fits, new_vlan_fits, match_allowed, is_table, lower_fits};
 ghost use Rattle.rules.specs.declared.Terms.{Terms};

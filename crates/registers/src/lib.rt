@@ -1,5 +1,8 @@
 // The register file: fresh registers, reads and writes, and the owner's setting of a link. Whatever the registers hold, each call
 // gives exactly what the rules say. What a write does to the tables it only reports.
+
+#![tactic(auto)]
+
 ghost use Rattle.std.specs.Prelude.{◌≡◌, ◌^◌, ◌<◌, false, nat_lt};
 ghost use Rattle.rules.specs.Choose.{choose};
 ghost use Rattle.rules.specs.Limits.{max_credits};
@@ -13,14 +16,14 @@ use ring::RingWritten;
 use rules::{Access, Answer, Register, Registers, Ring};
 
 // What a register read gives.
-#[derive(Drop)]
+#[derive(Clone, Copy)]
 pub struct Reading {
     pub answer: Answer,
     pub value: u64,
 }
 
 // What a register write gives. `resets`: the device is reset, so its tables are to be emptied.
-#[derive(Drop)]
+#[derive(Clone, Copy)]
 pub struct Written {
     pub answer: Answer,
     pub registers: Registers,
@@ -29,7 +32,7 @@ pub struct Written {
 }
 
 // What fresh and link give.
-#[derive(Drop)]
+#[derive(Clone, Copy)]
 pub struct Changed {
     pub answer: Answer,
     pub registers: Registers,

@@ -1,12 +1,15 @@
 // Runs a script of register calls on one device: a call a line on standard input, its outcome a line on standard output. A line
 // that cannot be understood is reported on standard error and passed over.
+
+#![tactic(auto)]
+
 use libc::{STDERR_FILENO, STDIN_FILENO};
 use lines::{Reader, told};
 use rules::Registers;
 use text::Numeral;
 
 // A script under way; `more` as the reader says it.
-#[derive(Drop)]
+#[derive(Clone, Copy)]
 struct Script {
     registers: Registers,
     reader: Reader,

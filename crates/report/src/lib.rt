@@ -1,4 +1,7 @@
 // What a replay prints, and what undoing a journal prints.
+
+#![tactic(auto)]
+
 ghost use Rattle.std.specs.Prelude.{◌≡◌, ◌++◌, ◌+◌, ◌≤◌, length};
 ghost use Rattle.rules.specs.Tables.{arrays, live_flows, live_groups};
 ghost use Rattle.rules.specs.Journal.{decimal, item, line, Replayed.Replays, Replayed.Fails, report};
@@ -13,7 +16,7 @@ use replaying::replay::Replayed;
 use rules::{FlowRow, FlowRows, GroupHead, GroupHeads, GroupMembers, MAX_MEMBERS};
 
 // A number's digits, from a position of 20 bytes on.
-#[derive(Drop)]
+#[derive(Clone, Copy)]
 struct Digits {
     start: usize,
     bytes: [u8; 20],

@@ -1,4 +1,7 @@
 // A ring: what each of its registers reads, what a write of it does, and what a completed slot does.
+
+#![tactic(auto)]
+
 ghost use Rattle.std.specs.Prelude.{◌≡◌, false, ◌<◌, ◌%◌, ◌^◌, ltb};
 ghost use Rattle.rules.specs.Choose.{choose};
 ghost use Rattle.rules.specs.Ring.{zero_ring, distance, outstanding, advance, power_up_to, ctrl_effect, ring_wide, ring_value, ring_store, ring_latch, base_latched, ring_latched, next_slot, complete_effect, complete_raises};
@@ -9,7 +12,7 @@ ghost use Rattle.rules.specs.Limits.{max_credits};
 use rules::{Answer, MAX_CREDITS, Ring, RingRegister};
 
 // What a write makes of a ring. `raises`: the ring's vector is raised.
-#[derive(Drop)]
+#[derive(Clone, Copy)]
 pub struct RingWritten {
     pub answer: Answer,
     pub ring: Ring,

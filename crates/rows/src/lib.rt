@@ -1,5 +1,8 @@
 // Rows of words and the entries that they hold (rules, specs/Rows.antt): a row is unpacked by one function and packed by another, and
 // packing is proved to be undone by unpacking. In words of 32 bits nearly every field is one word; those of 64 bits and MACs are two, the lower first.
+
+#![tactic(auto)]
+
 ghost use Rattle.std.specs.Prelude.{◌≡◌, not, ◌+◌, ◌*◌, ◌%◌, ◌/◌, eqb};
 ghost use Rattle.rules.specs.Rows.{entry_in, group_in, joined};
 

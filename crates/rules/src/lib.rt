@@ -1,9 +1,11 @@
 // The types that the rules and all code share. What document 01 says of them is defined in specs/.
 
+#![tactic(auto)]
+
 // ---- Answer numbers and status codes
 
 // What a call answers. `number` in specs/Answers.antt gives document 01's number of each.
-#[derive(Drop)]
+#[derive(Clone, Copy)]
 pub enum Answer {
     Done,
     AccessNotAllowed,
@@ -25,7 +27,7 @@ pub enum Answer {
 }
 
 // How a command ended. `code` in specs/Answers.antt gives document 01's code of each.
-#[derive(Drop)]
+#[derive(Clone, Copy)]
 pub enum Status {
     Ok,
     Enoent,
@@ -86,7 +88,7 @@ pub type GroupMembers = [Members; MAX_GROUPS];
 pub const CURRENT_VERSION: u16 = 3;
 
 // What a journal's header tells, and what its payloads are carried out under: the port count and the version.
-#[derive(Drop)]
+#[derive(Clone, Copy)]
 pub struct Terms {
     pub ports: u32,
     pub version: u16,
@@ -95,7 +97,7 @@ pub struct Terms {
 // ---- Registers
 
 // A ring. `base_latch` is the latch (document 01: hold) of BASE_ADDR.
-#[derive(Drop)]
+#[derive(Clone, Copy)]
 pub struct Ring {
     pub base_addr: u64,
     pub base_latch: u32,
@@ -106,7 +108,7 @@ pub struct Ring {
 }
 
 // All that the device keeps besides its tables. `test_reg` and `test_reg64` are the last values written.
-#[derive(Drop)]
+#[derive(Clone, Copy)]
 pub struct Registers {
     pub switch_id: u64,
     pub links: u64,
@@ -120,7 +122,7 @@ pub struct Registers {
 }
 
 // The six registers that a ring has.
-#[derive(Drop)]
+#[derive(Clone, Copy)]
 pub enum RingRegister {
     BaseAddr,
     Size,
@@ -132,7 +134,7 @@ pub enum RingRegister {
 
 // The registers of document 01's list: the device's own eight, where Magic is each 8 bytes of 0x0000 to 0x000f, and a ring's six with
 // the ring's number.
-#[derive(Drop)]
+#[derive(Clone, Copy)]
 pub enum Register {
     Magic,
     TestReg,
@@ -146,14 +148,14 @@ pub enum Register {
 }
 
 // The register that starts at an offset, if one does.
-#[derive(Drop)]
+#[derive(Clone, Copy)]
 pub enum Located {
     Nowhere,
     Here(Register),
 }
 
 // What an access of some width at some offset reaches: a whole register, or half of one that has 8 bytes.
-#[derive(Drop)]
+#[derive(Clone, Copy)]
 pub enum Access {
     NotAllowed,
     Reserved,
@@ -165,7 +167,7 @@ pub enum Access {
 // ---- Descriptor
 
 // A descriptor's fields that are read.
-#[derive(Drop)]
+#[derive(Clone, Copy)]
 pub struct Descriptor {
     pub buf_addr: u64,
     pub buf_size: u32,
@@ -175,7 +177,7 @@ pub struct Descriptor {
 // ---- TLV regions and fields
 
 // One whole TLV of a region: its type, where its value starts, and how long that is.
-#[derive(Drop)]
+#[derive(Clone, Copy)]
 pub struct Tlv {
     pub kind: u32,
     pub start: usize,
@@ -183,7 +185,7 @@ pub struct Tlv {
 }
 
 // What stands at a position of a region: a whole TLV; the region's end; or a fault: bytes that are no whole TLV.
-#[derive(Drop)]
+#[derive(Clone, Copy)]
 pub enum Step {
     Next(Tlv),
     End,
@@ -191,7 +193,7 @@ pub enum Step {
 }
 
 // What a region holds of a type: nothing; one value, by start and length; or a fault: it comes twice or has another width.
-#[derive(Drop)]
+#[derive(Clone, Copy)]
 pub enum Found {
     Absent,
     At(usize, usize),
@@ -201,7 +203,7 @@ pub enum Found {
 // A row of the field table: a bit for each user that reads the field of this type in CMD_INFO and for each that requires it; its width there
 // (0: a nest), and the width of the member field of this type in GROUP_IDS (0: none). In this order it has no gaps, and a table of such rows
 // is stored many bytes at a time.
-#[derive(Drop)]
+#[derive(Clone, Copy)]
 pub struct FieldRule {
     pub uses: u16,
     pub needs: u16,
@@ -213,7 +215,7 @@ pub struct FieldRule {
 
 // What a flow compares, by its table: 0, 10, 20, 30, 50. An address of 32 bits stands in the upper bits of 128, and its mask is the number
 // of ones that it begins with (specs/Address.antt).
-#[derive(Drop)]
+#[derive(Clone, Copy)]
 pub enum Match {
     IngressPort {
         in_pport: u32,
@@ -247,7 +249,7 @@ pub enum Match {
     },
 }
 
-#[derive(Drop)]
+#[derive(Clone, Copy)]
 pub struct Flow {
     pub cookie: u64,
     pub priority: u32,
@@ -259,7 +261,7 @@ pub struct Flow {
 
 // A group without its members, which stand beside it: POP_VLAN of type 0; the VLAN and the two MACs of type 2, whose one member is its lower
 // group; GROUP_COUNT of types 3 and 4.
-#[derive(Drop)]
+#[derive(Clone, Copy)]
 pub struct Group {
     pub id: u32,
     pub pop_vlan: bool,
@@ -269,7 +271,7 @@ pub struct Group {
     pub dst_mac: u64,
 }
 
-#[derive(Drop)]
+#[derive(Clone, Copy)]
 pub enum Command {
     FlowAdd(Flow),
     FlowMod(Flow),
@@ -280,14 +282,14 @@ pub enum Command {
 }
 
 // What a payload asks for, or the status that its first fault gives.
-#[derive(Drop)]
+#[derive(Clone, Copy)]
 pub enum Decoded {
     Carry(Command),
     Refused(Status),
 }
 
 // A decoding with the members of its group: their low 16 bits, those past the count 0.
-#[derive(Drop)]
+#[derive(Clone, Copy)]
 pub struct Decoding {
     pub what: Decoded,
     pub members: Members,
@@ -296,7 +298,7 @@ pub struct Decoding {
 // ---- Tables
 
 // A stored flow. A field that its table does not have, or that was not given, is 0 and false.
-#[derive(Drop)]
+#[derive(Clone, Copy)]
 pub struct FlowEntry {
     pub cookie: u64,
     pub dst_mac: u64,
@@ -320,7 +322,7 @@ pub struct FlowEntry {
 
 // A stored group. A member has type 0 and the group's VLAN, so its low 16 bits say which it is; those past the count are 0.
 // OUT_PPORT of type 0 is the low 16 bits of the ID. A group of type 2 has its lower group as its one member. What a type does not have is 0.
-#[derive(Drop)]
+#[derive(Clone, Copy)]
 pub struct GroupEntry {
     pub id: u32,
     pub pop_vlan: bool,
@@ -332,7 +334,7 @@ pub struct GroupEntry {
 }
 
 // How many places of each table are live: those at the front of its array, in rising order of their key. The others are free.
-#[derive(Drop)]
+#[derive(Clone, Copy)]
 pub struct Counts {
     pub flows: usize,
     pub groups: usize,
@@ -342,7 +344,7 @@ pub struct Counts {
 pub type FlowOrder = [u8; MAX_FLOWS];
 
 // Where the flows of tables 10, 20, 30 and 50 begin in that order. Those of table 0 begin at 0.
-#[derive(Drop)]
+#[derive(Clone, Copy)]
 pub struct Firsts {
     pub vlan: usize,
     pub termination: usize,
@@ -352,7 +354,7 @@ pub struct Firsts {
 
 // The small part of a device. The places of its two tables, and the order of its flows, are arrays that whoever holds the device lends to a
 // call (specs/Rows.antt, specs/Switch.antt).
-#[derive(Drop)]
+#[derive(Clone, Copy)]
 pub struct Device {
     pub registers: Registers,
     pub counts: Counts,
@@ -363,7 +365,7 @@ pub struct Device {
 
 // A call on a device, its numbers as they were handed in: a port of 2^32 + 4 is not port 4. What it borrows (guest memory, frame,
 // journal buffer, list of outputs) stands beside it.
-#[derive(Drop)]
+#[derive(Clone, Copy)]
 pub enum Request {
     Read { offset: u64, width: u64 },
     Write { offset: u64, width: u64, value: u64 },

@@ -1,6 +1,8 @@
 // Demand 3 of the code: a theorem over every run of `device::fresh` and `device::call`, by their contracts. specs/Runs.antt states it.
 // The functions below do nothing of their own: they show that what the theorem asks of each call is what the code ensures.
 
+#![tactic(auto)]
+
 ghost use Rattle.rules.specs.Tables.{arrays};
 ghost use Rattle.rules.specs.Switch.{storage};
 ghost use Rattle.rules.specs.Journal.{replay};

@@ -2,6 +2,8 @@
 // no call, or that cannot be carried out, is reported on standard error, and the script goes on. A read or a write that fails is reported
 // there too, and ends it.
 
+#![tactic(auto)]
+
 use libc::{STDERR_FILENO, STDIN_FILENO};
 use lines::{Reader, print, told};
 use rules::{
@@ -10,7 +12,7 @@ use rules::{
 };
 
 // The guest memory's size, the device once there is one, and whether all that was printed is written.
-#[derive(Drop)]
+#[derive(Clone, Copy)]
 struct Console {
     memory: usize,
     made: bool,
@@ -19,7 +21,7 @@ struct Console {
 }
 
 // A script under way, and whether it goes on.
-#[derive(Drop)]
+#[derive(Clone, Copy)]
 struct Script {
     console: Console,
     reader: Reader,

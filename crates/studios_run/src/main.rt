@@ -2,6 +2,8 @@
 // route, and what goes to the host. The script is `stdin`, and `stdout` is what the second implementation of the device prints for it
 // (docs/CONSOLE.md).
 
+#![tactic(auto)]
+
 fn main() {
     script::run();
 }

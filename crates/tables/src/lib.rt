@@ -1,5 +1,8 @@
 // The flow table and the group table, changed where they stand: the caller lends the arrays of their places. A command finds the place of
 // its key and changes that place, and those behind it where an entry is put in or taken out.
+
+#![tactic(auto)]
+
 ghost use Rattle.std.specs.Prelude.{◌≡◌};
 ghost use Rattle.rules.specs.Tables.{arrays, fresh_arrays};
 
@@ -15,7 +18,7 @@ pub use flows::{flow_add, flow_add_at, flow_del, flow_del_at, flow_find, flow_mo
 pub use groups::{group_add, group_del, group_find, group_mod};
 
 // Where a key belongs among the live entries, how many these are, and whether it stands there.
-#[derive(Drop)]
+#[derive(Clone, Copy)]
 pub struct Place {
     pub at: usize,
     pub live: usize,
@@ -23,7 +26,7 @@ pub struct Place {
 }
 
 // A command's status, and the number of live entries after it.
-#[derive(Drop)]
+#[derive(Clone, Copy)]
 pub struct Counted {
     pub status: Status,
     pub count: usize,

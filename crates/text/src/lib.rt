@@ -1,9 +1,12 @@
 // Words and numbers of one line of a script. Words stand apart by one space; a number is decimal or, after 0x, hexadecimal.
+
+#![tactic(auto)]
+
 ghost use Rattle.std.specs.Prelude.{◌≡◌, ◌+◌, ◌<◌, ◌≤◌, length, drop};
 ghost use Rattle.text.specs.Text.{word_length, word_at, word_count, digit_of, numeral, is_hex, number_of, argument_of, is_number, value_of, arguments_of};
 
 // What a word says as a number of 64 bits.
-#[derive(Drop)]
+#[derive(Clone, Copy)]
 pub enum Numeral {
     Malformed,
     Number(u64),
@@ -130,7 +133,7 @@ pub fn number(s: &[u8]) -> Numeral
 }
 
 // The numbers that follow the name of a call: `good` if there are as many as expected and each is well formed.
-#[derive(Drop)]
+#[derive(Clone, Copy)]
 pub struct Numbers {
     pub good: bool,
     pub a: u64,

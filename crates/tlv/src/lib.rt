@@ -1,4 +1,7 @@
 // A region of TLVs in one pass: where the value of each type starts, and whether whole TLVs cover the region.
+
+#![tactic(auto)]
+
 ghost use Rattle.std.specs.Prelude.{◌≡◌};
 ghost use Rattle.rules.specs.Version.{header_bytes};
 ghost use Rattle.rules.specs.Region.{well_formed};
@@ -17,7 +20,7 @@ pub fn header_bytes(version: u16) -> usize
 
 // What a pass over a region gives. `places` has a number for each type below 44: 0 where the region has no value of that type, 1 where
 // it has more than one, else where its value starts, which is at 8 or later.
-#[derive(Drop)]
+#[derive(Clone, Copy)]
 pub struct Index {
     pub places: [usize; FIELD_TYPES],
     pub whole: bool,

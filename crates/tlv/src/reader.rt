@@ -62,7 +62,7 @@ fn after(at: usize, step: Step) -> usize
 }
 
 // A borrowed region and a position in it.
-#[derive(Drop)]
+#[derive(Clone, Copy)]
 pub struct Reader<'a> {
     payload: &'a [u8],
     at: usize,

@@ -1,4 +1,7 @@
 // undo N FILE OUT: writes to OUT the payloads which, carried out after a journal, give back the tables after its first N lines.
+
+#![tactic(auto)]
+
 mod reading;
 
 use input::files;

@@ -1,5 +1,8 @@
 // Undoes journals from standard input, by one call and in pieces, and prints what each comes to and the room after it. Each stands behind
 // its number n (8 bytes), the room's length (4) and its own (4); every byte of the room is 0xa5 before.
+
+#![tactic(auto)]
+
 ghost use Rattle.std.specs.Prelude.{◌≤◌};
 ghost use Rattle.rules.specs.Undo.{undo};
 ghost use Rattle.undoing.specs.Undoing.{Is};
@@ -19,7 +22,7 @@ const MOST: usize = 262144;
 const KEPT: u8 = 0xa5;
 
 // n, the room's length, the journal's length; and whether there is a question.
-#[derive(Drop)]
+#[derive(Clone, Copy)]
 struct Question {
     n: u64,
     room: usize,

@@ -1,4 +1,7 @@
 // A journal undone (rules, specs/Undo.antt): the list of payloads that gives the tables after its first n records back.
+
+#![tactic(auto)]
+
 ghost use Rattle.std.specs.Prelude.{◌≡◌};
 ghost use Rattle.rules.specs.Tables.{arrays, tables_of};
 ghost use Rattle.rules.specs.Undo.{payloads, fitted, undo_from, undo};
@@ -11,7 +14,7 @@ use earlier::reading::Ended;
 use rules::{Answer, Counts, FlowRows, GroupHeads, GroupMembers};
 
 // The answer; the record of a journal's fault; how many payloads and bytes the list has.
-#[derive(Drop)]
+#[derive(Clone, Copy)]
 pub struct Undone {
     pub answer: Answer,
     pub at: u64,

@@ -1,5 +1,8 @@
 // Numbers in a slice of bytes, and whether a range is inside one. Nothing here has a `requires`: bytes past the end read as 0,
 // and a number that does not fit inside is not written.
+
+#![tactic(auto)]
+
 ghost use Rattle.std.specs.Prelude.{◌≡◌, min, ◌+◌, ◌*◌, ◌^◌, ◌≤◌};
 ghost use Rattle.rules.specs.Bytes.{le, le_at, swap16, swapped, inside};
 ghost use Rattle.wire.specs.Put.{put};
@@ -95,7 +98,7 @@ pub fn be64(s: &[u8], at: usize) -> u64
 }
 
 // A number of 16 bytes by its two halves.
-#[derive(Drop)]
+#[derive(Clone, Copy)]
 pub struct Halves {
     pub high: u64,
     pub low: u64,

@@ -1,6 +1,8 @@
 // The small part of a device as 20 words of 64 bits, which is how a host in C holds it (specs/Words.antt): no field there is a bool, so
 // whatever the words are they mean a device.
 
+#![tactic(auto)]
+
 ghost use Rattle.std.specs.Prelude.{◌≡◌, ◌%◌};
 ghost use Rattle.words.specs.Words.{ring_in, registers_in, device_in};
 

@@ -1,8 +1,8 @@
-use Rattle.hex.specs.Hex.{byte_of}
+use Rattle.hexadecimal.specs.Hex.{byte_of}
 use borrow.Author.Tests.{lt-ltb, le-ltb}
 use borrow.Author.Rules.{rules}
-use Rattle.hex.proofs.byte.Statement.{statement}
-use Rattle.hex.proofs.byte.Tie as tie
+use Rattle.hexadecimal.proofs.byte.Statement.{statement}
+use Rattle.hexadecimal.proofs.byte.Tie as tie
 
 returns : tie.Need-returns
 unfolding byte_of

@@ -4,8 +4,8 @@ use mathlib.Core.Path.{◌≡◌, sym, ◌∙◌}
 use lib.ListN.{length, drop}
 use Prim.Native.Nat.{◌-◌}
 use borrow.Author.Rules.{rules}
-use Rattle.hex.proofs.all_digits.Statement.{statement}
-use Rattle.hex.proofs.all_digits.Tie as tie
+use Rattle.hexadecimal.proofs.all_digits.Statement.{statement}
+use Rattle.hexadecimal.proofs.all_digits.Tie as tie
 
 abbrev invariant-loop : tie.invariant-loop
 invariant-loop s i₀ i = all_digits 16 s ≡ all_digits 16 (drop i s)

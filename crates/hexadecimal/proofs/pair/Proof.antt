@@ -1,8 +1,8 @@
-use Rattle.hex.specs.Hex.{pair_of}
+use Rattle.hexadecimal.specs.Hex.{pair_of}
 use borrow.Author.Tests.{lt-ltb, le-ltb}
 use borrow.Author.Rules.{rules}
-use Rattle.hex.proofs.pair.Statement.{statement}
-use Rattle.hex.proofs.pair.Tie as tie
+use Rattle.hexadecimal.proofs.pair.Statement.{statement}
+use Rattle.hexadecimal.proofs.pair.Tie as tie
 
 returns : tie.Need-returns
 unfolding pair_of

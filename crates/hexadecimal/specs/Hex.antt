@@ -1,8 +1,8 @@
 -- Byte strings of a script: hexadecimal digits, two to a byte, or - for none.
 use Rattle.std.specs.Prelude.{ℕ, ◌+◌, ◌*◌, ◌/◌, ◌%◌, ◌<◌, ◌≡◌, List, Bool, ◌&&◌, length, get_or, ltb, eqb}
 use Rattle.text.specs.Text.{pick, digit_of, all_digits}
-use Rattle.hex.specs.declared.Counted.{Counted}
-use Rattle.hex.specs.declared.Counted.TheVariants.{Malformed, Bytes}
+use Rattle.hexadecimal.specs.declared.Counted.{Counted}
+use Rattle.hexadecimal.specs.declared.Counted.TheVariants.{Malformed, Bytes}
 
 -- the byte - alone
 unfoldable pub is_dash : List ℕ → Bool

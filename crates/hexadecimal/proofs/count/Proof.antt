@@ -1,8 +1,8 @@
-use Rattle.hex.specs.Hex.{counted}
+use Rattle.hexadecimal.specs.Hex.{counted}
 use borrow.Author.Tests.{eq-eqb, ne_eqb}
 use borrow.Author.Rules.{rules}
-use Rattle.hex.proofs.count.Statement.{statement}
-use Rattle.hex.proofs.count.Tie as tie
+use Rattle.hexadecimal.proofs.count.Statement.{statement}
+use Rattle.hexadecimal.proofs.count.Tie as tie
 
 returns : tie.Need-returns
 unfolding counted

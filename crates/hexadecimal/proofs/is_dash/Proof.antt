@@ -1,8 +1,8 @@
-use Rattle.hex.specs.Hex.{is_dash}
+use Rattle.hexadecimal.specs.Hex.{is_dash}
 use borrow.Author.Tests.{eq-eqb, ne_eqb}
 use borrow.Author.Rules.{rules}
-use Rattle.hex.proofs.is_dash.Statement.{statement}
-use Rattle.hex.proofs.is_dash.Tie as tie
+use Rattle.hexadecimal.proofs.is_dash.Statement.{statement}
+use Rattle.hexadecimal.proofs.is_dash.Tie as tie
 
 returns : tie.Need-returns
 unfolding is_dash

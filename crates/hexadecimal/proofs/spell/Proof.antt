@@ -1,17 +1,17 @@
-use Rattle.hex.proofs.Filling.{Filled, fill_starts, fill_goes_on, fill_ends}
-use Rattle.hex.specs.Hex.{byte_of, BytesOf}
+use Rattle.hexadecimal.proofs.Filling.{Filled, fill_starts, fill_goes_on, fill_ends}
+use Rattle.hexadecimal.specs.Hex.{spelled_at, SpellingOf}
 use lib.ListN.{length}
 use Prim.Native.Nat.{◌-◌}
 use borrow.Author.Rules.{rules}
 use native.Mathlib.Omega.{arith}
-use Rattle.hex.proofs.bytes.Statement.{statement}
-use Rattle.hex.proofs.bytes.Tie as tie
+use Rattle.hexadecimal.proofs.spell.Statement.{statement}
+use Rattle.hexadecimal.proofs.spell.Tie as tie
 
 abbrev invariant-loop : tie.invariant-loop
-invariant-loop s out₀ i₀ out i = Filled (byte_of s) out₀ i out
+invariant-loop s out₀ k₀ out k = Filled (spelled_at s) out₀ k out
 
 abbrev decreases-loop : tie.decreases-loop
-decreases-loop s out₀ i₀ out i = length out₀ - i
+decreases-loop s out₀ k₀ out k = length out₀ - k
 
 loop-holds : tie.Need-loop-init invariant-loop decreases-loop
 loop-holds c = fill_starts
@@ -20,14 +20,14 @@ loop-less : tie.Need-loop-smaller invariant-loop decreases-loop
 loop-less c = omega (arith, c.before.before.loop.invariant.size)
 
 loop-again : tie.Need-loop-preserved invariant-loop decreases-loop
-loop-again c = rw c.byte.ensures (fill_goes_on c.before.before.loop.invariant c.before.loop-test.true)
+loop-again c = rw c.digit.ensures (fill_goes_on c.before.before.loop.invariant c.before.loop-test.true)
 
 returns : tie.Need-returns invariant-loop decreases-loop
-unfolding BytesOf
+unfolding SpellingOf
 returns c = fill_ends c.before.loop.invariant c.loop-test.false
 
-pub bytes_spec : {M : Type 1} → statement M
-bytes_spec =
+pub spell_spec : {M : Type 1} → statement M
+spell_spec =
     tie.close
     (tie.spec
     invariant-loop

@@ -1,8 +1,8 @@
-use Rattle.hex.specs.Hex.{spelled_at}
+use Rattle.hexadecimal.specs.Hex.{spelled_at}
 use borrow.Author.Tests.{lt-ltb, le-ltb, eq-eqb, ne_eqb}
 use borrow.Author.Rules.{rules}
-use Rattle.hex.proofs.digit.Statement.{statement}
-use Rattle.hex.proofs.digit.Tie as tie
+use Rattle.hexadecimal.proofs.digit.Statement.{statement}
+use Rattle.hexadecimal.proofs.digit.Tie as tie
 
 returns : tie.Need-returns
 unfolding spelled_at

@@ -1,8 +1,8 @@
-use Rattle.hex.specs.Hex.{letter_of}
+use Rattle.hexadecimal.specs.Hex.{letter_of}
 use borrow.Author.Tests.{lt-ltb, le-ltb}
 use borrow.Author.Rules.{rules}
-use Rattle.hex.proofs.letter.Statement.{statement}
-use Rattle.hex.proofs.letter.Tie as tie
+use Rattle.hexadecimal.proofs.letter.Statement.{statement}
+use Rattle.hexadecimal.proofs.letter.Tie as tie
 
 returns : tie.Need-returns
 unfolding letter_of

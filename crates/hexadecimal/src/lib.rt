@@ -1,11 +1,13 @@
 // Byte strings of a script in hexadecimal digits, two to a byte; - for none.
 
+#![tactic(auto)]
+
 ghost use Rattle.std.specs.Prelude.{◌≡◌};
 ghost use Rattle.text.specs.Text.{all_digits};
-ghost use Rattle.hex.specs.Hex.{is_dash, counted, pair_of, byte_of, BytesOf, letter_of, spelled_at, SpellingOf};
+ghost use Rattle.hexadecimal.specs.Hex.{is_dash, counted, pair_of, byte_of, BytesOf, letter_of, spelled_at, SpellingOf};
 
 // The bytes that a word stands for, counted.
-#[derive(Drop)]
+#[derive(Clone, Copy)]
 pub enum Counted {
     Malformed,
     Bytes(usize),
