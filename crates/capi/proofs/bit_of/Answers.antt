@@ -1,0 +1,10 @@
+use Rattle.capi.specs.Outcome.{bit_of}
+use Rattle.capi.proofs.bit_of.Goals as goal
+
+pub returns-then-b : goal.returns-then-b
+unfolding bit_of
+returns-then-b c = rw c.if-b.true
+
+pub returns-else-b : goal.returns-else-b
+unfolding bit_of
+returns-else-b c = rw c.if-b.false

@@ -1,0 +1,8 @@
+-- The search's way, by numbers.
+-- Assumes nothing.
+use mathlib.Core.Path.{◌∙◌}
+use Rattle.plain.proofs.ordered_way.Goals as goal
+
+pub returns : goal.returns
+returns c =
+    c.numbers_of.ensures ∙ rw (c.headers_of.ensures, c.firsts_of.ensures) at c.way-w.ensures

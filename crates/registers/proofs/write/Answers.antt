@@ -1,0 +1,10 @@
+use Rattle.registers.proofs.Fits.{taken_fits}
+use Rattle.rules.specs.Registers.{write}
+use Rattle.registers.proofs.write.Goals as goal
+
+pub write_to-requires : goal.write_to-requires
+write_to-requires c = rw (c.access.ensures, c.taken.ensures) (taken_fits _ _ _)
+
+pub returns : goal.returns
+unfolding write
+returns c = rw (← c.access.ensures, ← c.taken.ensures) c.write_to.ensures

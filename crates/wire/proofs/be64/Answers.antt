@@ -1,0 +1,4 @@
+use Rattle.wire.proofs.be64.Goals as goal
+
+pub returns : goal.returns
+returns c = cc
