@@ -2,7 +2,8 @@
 -- Assumes nothing.
 use Prim.Native.Nat.{ℕ}
 use mathlib.Core.List.{List, [], ◌∷◌}
-use Rattle.rules.specs.Switch.{Switch, fresh_switch}
+use Rattle.rules.specs.Engine.{plain, ordered}
+use Rattle.rules.specs.Switch.{Switch, fresh_switch, step_by}
 use Rattle.history.specs.Trace.{Call, step_at, final}
 use Rattle.engines.specs.Kept.{Kept}
 use Rattle.engines.specs.Claim.{SameCalls, EnginesAgree}
@@ -13,12 +14,12 @@ same_calls : (s s' : Switch) → Alike s s' → (cs : List Call) → SameCalls s
 same_calls s s' h [] = tt
 same_calls s s' h (c ∷ cs) =
     let x = step_agrees s s' h c.borrowed c.request in
-    (x.same, same_calls _ _ x.alike cs)
+    (x.same, same_calls (step_by plain s c.borrowed c.request).switch (step_by ordered s' c.borrowed c.request).switch x.alike cs)
 
 kept_always : (s s' : Switch) → Alike s s' → (cs : List Call) → Kept (final s' cs).tables.flows (final s' cs).order
 unfolding final step_at
 kept_always s s' h [] = h.tables_are.kept
-kept_always s s' h (c ∷ cs) = kept_always _ _ (step_agrees s s' h c.borrowed c.request).alike cs
+kept_always s s' h (c ∷ cs) = kept_always (step_by plain s c.borrowed c.request).switch (step_by ordered s' c.borrowed c.request).switch (step_agrees s s' h c.borrowed c.request).alike cs
 
 -- ---- THE THEOREM
 

@@ -1,8 +1,8 @@
 -- A pass over a region, a step at a time, and the index that it makes.
 -- Assumes nothing.
 use Prim.Native.Nat.{ℕ, ◌+◌, ◌-◌, ◌≤◌, ◌<◌}
-use mathlib.Core.Path.{◌≡◌, refl, sym, ap, ◌∙◌}
-use mathlib.Core.Bool.{not}
+use mathlib.Core.Path.{◌≡◌, refl, sym, subst, ap, ◌∙◌}
+use mathlib.Core.Bool.{Bool, true, false, not}
 use mathlib.Core.List.{List, []}
 use native.Mathlib.Omega.{arith}
 use lib.ListN.{length, length-set, get_or, replicate, get_or-replicate}
@@ -67,6 +67,13 @@ tlv_here h s i x e =
     by_test (is_tlv h s i)
     (λ p. let w = step_next h s i p in (cc, leb-true _ _ (and_left (leb h (le_at 2 s (i + 4))) _ p)))
     (λ p. by_eq i (length s) (λ q r. let w = step_end h s i q in clash cc) (λ d r. let w = step_fault h s i p d in clash cc))
+
+-- a test that came out true holds, and the opposite of one that came out false
+pub holds : (b : Bool) → b ≡ true → Holds b
+holds b e = subst Holds (sym e) tt
+
+pub fails : (b : Bool) → b ≡ false → Holds (not b)
+fails b e = subst (λ (x : Bool). Holds (not x)) (sym e) tt
 
 -- a step that does not stop a pass is a TLV
 pub goes_on : (t : Step) → Holds (not (stops t)) → (x : Tlv) × (t ≡ Next x)

@@ -47,7 +47,7 @@ module _ {A : Type 0} (key : A → ℕ) where
       by_order (key a) (key b)
       (λ h p q. absurd (not_before a b l m h (f (key a))))
       (λ h p q. ap₂ {C = List A} (λ x xs. x ∷ xs)
-      (some-injective a b (sym (find_first a l) ∙ f (key a) ∙ rw h (find_first b m)))
+      (some-injective a b (sym (find_first a l) ∙ f (key a) ∙ ap {B = Option A} (λ k. find key k (b ∷ m)) h ∙ find_first b m))
       (alike l m s.1 t.1 (λ k. by_lt (key a) k
       (λ i r. sym (find_later k a l i) ∙ f k ∙ find_later k b m (omega arith))
       (λ i r. find_below key k (key a) l i s.0 ∙ sym (find_below key k (key b) m (omega arith) t.0)))))
