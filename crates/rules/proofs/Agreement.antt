@@ -17,7 +17,7 @@ use Rattle.rules.specs.Descriptor.Fetched.{Faulty, Payload}
 use Rattle.rules.specs.Region.{walk, tlvs, end_of, well_formed, scan, lookup}
 use Rattle.rules.specs.Fields.{is_at}
 use Rattle.rules.specs.Decode.{refused, carried, need, flow_in, flow_key_in, group_in, group_key_in, command_in, command_type, command_info, decode}
-use Rattle.rules.specs.Tables.{Tables, add_status, held_status, command_status, command_status_in, decoded_status, decoded_status_in, executed, carry_out, carry_out_in, execute, execute_in, cookie_of, id_of}
+use Rattle.rules.specs.Tables.{Tables, add_status, held_status, command_status_in, decoded_status, decoded_status_in, executed, carry_out_in, execute, execute_in, cookie_of, id_of}
 use Rattle.rules.specs.Keyed.{holds}
 use Rattle.rules.specs.Journal.{completion, Progress, ready, is_unread, record_agrees, tables_after, counted, record_read}
 use Rattle.rules.specs.Engine.{Order}

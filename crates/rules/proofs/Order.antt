@@ -3,19 +3,18 @@
 -- Assumes nothing.
 use Prim.Native.Nat.{ℕ, ◌*◌, ◌^◌}
 use mathlib.Core.Path.{◌≡◌, refl}
-use mathlib.Core.Bool.{Bool, true, false}
+use mathlib.Core.Bool.{true, false}
 use mathlib.Core.Option.{Option, none, some}
-use mathlib.Core.List.{List, [], ◌∷◌, ◌++◌, map}
+use mathlib.Core.List.{List, [], ◌∷◌, ◌++◌}
 use lib.Dec.{eqb}
 use Rattle.rules.specs.Answers.{code}
 use Rattle.rules.specs.Keyed.{position, holds, insert, replace, remove}
-use Rattle.rules.specs.Tables.{Tables, Store, stored_flow, flow_entry, empty_tables, add_status, held_status, command_status_in, with_flows, command_effect_in, executed}
+use Rattle.rules.specs.Tables.{Tables, stored_flow, flow_entry, empty_tables, add_status, held_status, command_status_in, with_flows, command_effect_in, executed}
 use Rattle.rules.specs.Frame.{best, beats}
 use Rattle.rules.specs.Engine.{Engine, Order, no_order, plain, ordered, stands_in, put_over, taken_out, decides_best, precedes, flow_at, is_before, halved, slot_of, own_slot, raise, lower, later, earlier, firsts_with, firsts_without, with_place, without_place, same_rank, order_added, order_deleted, order_changed, order_after, begins_at, ends_at, first_match, decides_first}
 use Rattle.rules.specs.declared.Match.{Match}
-use Rattle.rules.specs.declared.Match.TheVariants.{IngressPort, Vlan, UnicastRouting, Bridging}
+use Rattle.rules.specs.declared.Match.TheVariants.{Vlan, UnicastRouting, Bridging}
 use Rattle.rules.specs.declared.FlowEntry.{FlowEntry}
-use Rattle.rules.specs.declared.Firsts.{Firsts}
 use Rattle.rules.specs.declared.Flow.{Flow}
 use Rattle.rules.specs.declared.Command.{Command}
 use Rattle.rules.specs.declared.Command.TheVariants.{FlowAdd, FlowMod, FlowDel}

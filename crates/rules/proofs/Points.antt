@@ -21,14 +21,14 @@ use Rattle.rules.specs.GroupId.{group_type, group_vlan, group_low, vlan_allowed,
 use Rattle.rules.specs.Members.{elem, member_right, collect, members_in, members_right, pad}
 use Rattle.rules.specs.Decode.{refused, carried, need, match_of, flow_of, group_fits, new_vlan_fits, match_allowed, flow_user, is_table, flow_in, flow_key_in, group_of, members_of, group_allowed, group_user, group_in, group_key_in, is_command, command_in, command_type, command_info, decode}
 use Rattle.rules.specs.Keyed.{position, holds, find, insert, replace, remove}
-use Rattle.rules.specs.Tables.{Tables, stored_flow, flow_entry, group_entry, empty_tables, add_status, held_status, command_status, command_status_in, with_flows, with_groups, command_effect, command_effect_in, decoded_status, decoded_status_in, decoded_effect, decoded_effect_in, executed, carry_out, carry_out_in, execute, execute_in}
+use Rattle.rules.specs.Tables.{Tables, stored_flow, flow_entry, group_entry, empty_tables, add_status, held_status, command_status_in, with_flows, with_groups, command_effect_in, decoded_status_in, decoded_effect_in, executed, carry_out_in, execute, execute_in}
 use Rattle.rules.specs.Journal.{completion, header, record_of, begin, ready, stopped, header_refusal, terms_in, opened, header_read, is_unread, record_agrees, tables_after, counted, record_read, whole, feed, feeds, ends_in, finished, finish, replay, digits, decimal, item, line, report}
 use Rattle.rules.specs.Engine.{no_order}
-use Rattle.rules.specs.Switch.{Switch, Borrowed, fresh_switch, unchanged, unless_refused, read_effect, write_effect, carry, carry_by, carried_slot, carried_slot_by, slot_record, slot_record_by, buffer_refusal, process_refusal, process_refusal_by, process_writes, process_writes_by, process_effect, process_effect_by, headed, refusal, refusal_by, effect, effect_by, step, step_by}
+use Rattle.rules.specs.Switch.{Switch, Borrowed, fresh_switch, unchanged, unless_refused, read_effect, write_effect, carry_by, carried_slot_by, slot_record_by, buffer_refusal, process_refusal_by, process_writes_by, process_effect_by, headed, refusal_by, effect_by, step, step_by}
 use Rattle.rules.specs.declared.Terms.{Terms}
 use Rattle.rules.specs.declared.Ring.{Ring}
 use Rattle.rules.specs.declared.Request.TheVariants.{Read, Write, Process, Header}
-use Rattle.rules.proofs.PointTable.{Point, point, same, all}
+use Rattle.rules.proofs.PointTable.{Point, point, all}
 
 -- ---- What the points are computed from
 

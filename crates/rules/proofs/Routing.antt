@@ -1,11 +1,11 @@
 -- Points of request 2026-03, computed by the rules: masks, commands under the versions that have them and that have not, and frames of a
 -- switch whose routes overlap. One table, one test, one theorem.
 -- Assumes nothing.
-use Prim.Native.Nat.{ℕ, ◌+◌, ◌-◌, ◌*◌, ◌^◌}
+use Prim.Native.Nat.{ℕ, ◌-◌, ◌*◌, ◌^◌}
 use mathlib.Core.Path.{◌≡◌, refl}
 use mathlib.Core.Bool.{Bool, true, false}
 use mathlib.Core.List.{List, [], ◌∷◌, ◌++◌}
-use lib.ListN.{take, replicate}
+use lib.ListN.{replicate}
 use Rattle.rules.specs.Answers.{code}
 use Rattle.rules.specs.Bytes.{le, le_at, bytes_of, swap16, swapped, part, bit}
 use Rattle.rules.specs.Ring.{zero_ring}
@@ -18,11 +18,10 @@ use Rattle.rules.specs.GroupId.{group_type, group_vlan, group_low, vlan_allowed,
 use Rattle.rules.specs.Members.{elem, member_right, collect, members_in, members_right, pad}
 use Rattle.rules.specs.Decode.{refused, carried, need, ethertype_in, address_field, mask_field, other_absent, address_of, route_of, match_of, flow_of, group_fits, new_vlan_fits, match_allowed, flow_user, is_table, pair_alone, flow_in, flow_key_in, group_of, members_of, lower_fits, group_allowed, group_user, group_in, group_key_in, is_command, command_in, command_type, command_info, decode}
 use Rattle.rules.specs.Keyed.{position, holds, find, insert, replace, remove}
-use Rattle.rules.specs.Tables.{Tables, stored_flow, flow_entry, group_entry, empty_tables, add_status, held_status, command_status, command_status_in, with_flows, with_groups, command_effect, command_effect_in, decoded_status, decoded_status_in, decoded_effect, decoded_effect_in, executed, carry_out, carry_out_in, execute, execute_in}
+use Rattle.rules.specs.Tables.{Tables, stored_flow, flow_entry, group_entry, empty_tables, add_status, held_status, command_status_in, with_flows, with_groups, command_effect_in, decoded_status_in, decoded_effect_in, executed, carry_out_in, execute, execute_in}
 use Rattle.rules.specs.Engine.{decides_best}
 use Rattle.rules.specs.Frame.{is_tagged, frame_vlan, frame_mac, frame_type, after_type, is_routable, frame_address, headers_of, best, beats, matches0, matches10, matches20, matches30, matches50, exit_of, from_table50, from_table30, after_table20, from_table20, after_table10, from_table10, passes_table0, way_of, way, output_of, output_if, member_outputs, group_outputs, found_outputs, exit_outputs, is_kept, keep, outputs, mac_numbers, copy_of, numbers_of}
 use Rattle.rules.specs.Encode.{Field, field_of, tlv_of, region_of, payload_of}
-use Rattle.rules.specs.declared.Terms.{Terms}
 use Rattle.rules.specs.declared.Registers.{Registers}
 use Rattle.rules.specs.declared.Match.{Match}
 use Rattle.rules.specs.declared.Match.TheVariants.{Vlan, TerminationMac, UnicastRouting, Bridging}

@@ -7,7 +7,7 @@ use lib.Dec.{eqb}
 use lib.ListN.{length, get_or}
 use borrow.Author.Tests.{eq-eqb, ne_eqb}
 use Rattle.rules.specs.Writes.{touches}
-use Rattle.rules.specs.Switch.{Switch, Borrowed, unchanged, unless_refused, refusal, process_writes, process_effect, process_effect_by, effect, effect_by, step, step_by}
+use Rattle.rules.specs.Switch.{Switch, Borrowed, unchanged, unless_refused, refusal, process_writes, process_effect_by, effect, effect_by, step, step_by}
 use Rattle.rules.specs.declared.Request.{Request}
 use Rattle.rules.specs.declared.Request.TheVariants.{Process}
 use Rattle.rules.proofs.Cases.{by_test}

@@ -12,7 +12,7 @@ use Rattle.rules.specs.Limits.{max_flows, max_groups}
 use Rattle.rules.specs.Answers.{code}
 use Rattle.rules.specs.Keyed.{holds, Rising}
 use Rattle.rules.specs.Decode.{decode}
-use Rattle.rules.specs.Tables.{Tables, stored_flow, flow_entry, group_entry, cookie_of, id_of, empty_tables, add_status, command_status, command_status_in, with_flows, with_groups, command_effect, command_effect_in, decoded_status, decoded_status_in, decoded_effect, decoded_effect_in, executed, carry_out, carry_out_in, execute, execute_in}
+use Rattle.rules.specs.Tables.{Tables, stored_flow, flow_entry, group_entry, cookie_of, id_of, empty_tables, add_status, command_status, command_status_in, with_flows, with_groups, command_effect, command_effect_in, decoded_status, decoded_status_in, decoded_effect, decoded_effect_in, executed, carry_out_in, execute, execute_in}
 use Rattle.rules.specs.declared.Terms.{Terms}
 use Rattle.rules.specs.declared.Status.{Status}
 use Rattle.rules.specs.declared.Status.TheVariants.{Ok, Enoent, Enxio, Enomem, Eexist, Einval, Emsgsize, Enotsup}
