@@ -1,7 +1,7 @@
 -- From type 43 down: all fields are right exactly if those below t are.
 -- Assumes nothing.
 use Rattle.rules.proofs.FieldTable.{every_none, every_fails, every_next}
-use Rattle.rules.specs.Fields.{field_right, fields_right}
+use Rattle.rules.specs.Fields.{fields_right}
 use mathlib.Core.Path.{refl, sym, ◌∙◌}
 use Prim.Native.Nat.{◌-◌}
 use native.Mathlib.Omega.{arith}

@@ -1,9 +1,9 @@
 -- Each turn by the laws of a pass (Indexing): it starts, goes on with a TLV that is noted, comes nearer to the end, and stops.
-use Rattle.std.proofs.Common.{◌≡◌, ◌∙◌, sym, ap, subst, ℕ, ◌^◌, List, arith}
+use Rattle.std.proofs.Common.{◌∙◌, sym, ap, subst, ℕ, ◌^◌, List, arith}
 use Rattle.rules.specs.Region.{step_at}
 use Rattle.rules.proofs.Region.{after_fits}
 use Rattle.tlv.specs.Index.{stops, is_end, Indexed}
-use Rattle.tlv.proofs.Indexing.{holds, fails, Indexing, indexing_starts, indexing_on, indexing_less, indexing_stops}
+use Rattle.tlv.proofs.Indexing.{holds, fails, indexing_starts, indexing_on, indexing_less, indexing_stops}
 use Rattle.tlv.proofs.index_of.Goals as goal
 
 pub loop-r-init : goal.loop-r-init
@@ -35,6 +35,6 @@ loop-r-preserved c =
     record {
       payload = ap (λ r. r.now) c.skip-r.ensures.0 ∙ c.loop-r.invariant.payload;
       indexing =
-        rw (c.skip-r.ensures.1, c.note.ensures, e)
-        (indexing_on c.loop-r.invariant.indexing (fails _ (ap stops (sym e) ∙ sym c.stops.ensures ∙ c.if-stops.false)));
+          rw (c.skip-r.ensures.1, c.note.ensures, e)
+          (indexing_on c.loop-r.invariant.indexing (fails _ (ap stops (sym e) ∙ sym c.stops.ensures ∙ c.if-stops.false)));
     }

@@ -2,7 +2,6 @@
 -- Assumes nothing.
 use Rattle.wire.proofs.Numbers.{writing_starts, writing_goes_on, writing_ends, inside_true}
 use Rattle.wire.specs.Put.{put}
-use Rattle.rules.specs.Bytes.{inside}
 use lib.ListN.{length-set}
 use mathlib.Core.Path.{◌∙◌, sym}
 use borrow.Author.Rules.{rules}
