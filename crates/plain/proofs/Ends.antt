@@ -3,7 +3,7 @@
 use Prim.Native.Nat.{ℕ, zero, suc, ◌+◌, ◌-◌, ◌<◌, ◌≤◌}
 use mathlib.Core.Bool.{Bool, true, false}
 use mathlib.Core.Path.{◌≡◌, refl, ap, sym, ◌∙◌}
-use mathlib.Core.List.{List, [], ◌∷◌, ◌++◌, map, map-append}
+use mathlib.Core.List.{List, [], ◌∷◌, map, map-append}
 use native.Mathlib.Omega.{arith}
 use native.Mathlib.Numerals.{add-one}
 use lib.ListN.{length, take, set, length-map, length-take}
@@ -14,12 +14,11 @@ use Rattle.rules.specs.Keyed.{without}
 use Rattle.rules.specs.Rows.{entry_in}
 use Rattle.rules.specs.Places.{places, live}
 use Rattle.rules.specs.Tables.{live_flows, add_status, held_status}
-use Rattle.rules.specs.Engine.{stands_in}
 use Rattle.rules.specs.declared.FlowEntry.{FlowEntry}
 use Rattle.rules.specs.declared.Status.TheVariants.{Ok, Enoent, Enomem, Eexist}
 use Rattle.tables.proofs.Slots.{Shifted, take_without_end, take_without, take_live}
 use Rattle.tables.proofs.Commands.{refused, done}
-use Rattle.plain.specs.Store.{place_of, Stands, Added, Modded, Deleted}
+use Rattle.plain.specs.Store.{Stands, Added, Modded, Deleted}
 use Rattle.plain.proofs.Standing.{stands_lt, put_at, taken_at}
 
 -- rows that change are entries that change

@@ -1,7 +1,7 @@
 -- Table by table, the tests of the code are those of the rules, on plain values: f stands in the place, and e is f.
 -- Assumes nothing.
 use Prim.Native.Nat.{ℕ}
-use mathlib.Core.Bool.{true, false, not, ◌&&◌, ◌||◌}
+use mathlib.Core.Bool.{not, ◌&&◌, ◌||◌}
 use mathlib.Core.Path.{◌≡◌, sym, ap, ◌∙◌}
 use lib.Bits.{bit_and}
 use lib.Dec.{eqb}

@@ -1,5 +1,5 @@
 -- Each turn by the laws of a list under way (Collect): it starts, goes on with a TLV, comes nearer to the end, and stops.
-use Rattle.std.proofs.Common.{◌≡◌, ◌∙◌, sym, ap, ℕ, ◌^◌, Bool, ◌||◌, List, ltb, arith}
+use Rattle.std.proofs.Common.{◌∙◌, sym, ap, ℕ, ◌^◌, ◌||◌, List, ltb, arith}
 use Rattle.rules.specs.Region.{step_at}
 use Rattle.rules.specs.declared.Step.{Step}
 use Rattle.rules.proofs.Region.{after_fits}

@@ -1,4 +1,4 @@
-use lib.ListN.{take, length-take}
+use lib.ListN.{length-take}
 use Rattle.outputs.proofs.Search.{passed_more, stopped, ended}
 use native.Mathlib.Omega.{arith}
 use Rattle.outputs.proofs.seek.Goals as goal
