@@ -8,19 +8,28 @@ import subprocess
 
 ROOT = pathlib.Path(__file__).resolve().parents[2]
 COPIED = ("run", "shell", "toolchain.txt", "VERSION", "README.md", "docs", "examples", "include", "crates.txt", "bench/Cargo.toml")
-BUILT = ("target/bin", "target/stamp", "target/staticlib")
+BUILT = ("target/bin", "target/staticlib")
+PROGRAMS = ("replay", "undo", "console")
 TOOLS = ("sh awk basename cat chmod cmp cp cut date dirname env find flock grep head id ls mkdir mktemp mv nproc readlink rm sed sha256sum "
          "sleep sort tail touch tr uname wc yes").split()
 
-# A false rt: it notes what it is asked, says much, eats its standard input, and does what the files of its folder say.
+# A false rt: it notes what it is asked and in which crate, says much, eats its standard input, and does what the files of its folder say. What
+# it builds is a copy of the source, and like rt it runs a program that it has built.
 RT = """#!/bin/sh
 here=$(dirname "$(readlink -f "$0")")
-echo "rt $*" >>"$here/asked"
-[ "$1" != version ] || { cat "$here/version" && exit 0; }
+crate=${PWD##*/} verb=$1
+[ "$verb" != version ] || { echo "rt version" >>"$here/asked" && cat "$here/version" && exit 0; }
+echo "$crate: rt $*" >>"$here/asked"
 cat >/dev/null
 echo "chatter on output" && echo "chatter on error" >&2
-[ ! -e "$here/fails-$1" ] || exit 1
+[ ! -e "$here/fails-$verb" ] || exit 1
+mkdir -p out
+case $verb in
+run) cp src/main.rt "out/$crate.new" && chmod +x "out/$crate.new" && mv -f "out/$crate.new" "out/$crate" ;;
+lib) cp src/lib.rt "out/lib$crate.a" ;;
+esac
 [ ! -e "$here/does" ] || . "$here/does"
+[ "$verb" != run ] || { shift 2 && exec "out/$crate" "$@"; }
 """
 
 
@@ -41,11 +50,12 @@ def script(path, text):
 
 
 def copy(to, parts):
+    """These parts of the repository, without the crates' folders out/, in which rt keeps gigabytes."""
     for part in parts:
         source, goal = ROOT / part, to / part
         goal.parent.mkdir(parents=True, exist_ok=True)
         if source.is_dir():
-            shutil.copytree(source, goal, symlinks=True)
+            shutil.copytree(source, goal, symlinks=True, ignore=shutil.ignore_patterns("out"))
         else:
             shutil.copy2(source, goal)
     return to
@@ -84,7 +94,7 @@ class Tree:
 
 
 class Imitation(Tree):
-    """A copy with a false rt and false programs: target/bin/replay, undo and console, which note that they are run."""
+    """A copy with a false rt, and the false programs replay, undo and console, which are built and note that they are run."""
 
     def __init__(self, root):
         super().__init__(copy(root, COPIED))
@@ -93,16 +103,25 @@ class Imitation(Tree):
         self.rt = script(root / "rt/rt", RT).parent
         (self.bin / "rt").symlink_to(self.rt / "rt")
         self.version((ROOT / "toolchain.txt").read_text().splitlines()[-1])
-        for name in ("replay", "undo", "console"):
-            (root / "crates" / name / "src").mkdir(parents=True)
-            (root / "crates" / name / "src/main.rt").touch()
+        for name in PROGRAMS:
             self.program(name, "echo ports 4")
+        expect("the false programs are built", self.build(*PROGRAMS)[:2], (0, b""))
+        self.asked()
 
     def version(self, line):
         (self.rt / "version").write_text(f"{line}\n")
 
+    def source(self, crate, file, text):
+        path = self.root / "crates" / crate / file
+        path.parent.mkdir(parents=True, exist_ok=True)
+        path.write_text(text)
+
     def program(self, name, text):
-        script(self.root / "target/bin" / name, f"#!/bin/sh\necho ran {name} >>'{self.rt}/asked'\n{text}\n")
+        """A program's source, of which the next run builds it: it ends at once with --help, and else does this."""
+        self.source(name, "src/main.rt", f"#!/bin/sh\n[ \"$*\" != --help ] || exit 0\necho ran {name} >>'{self.rt}/asked'\n{text}\n")
+
+    def build(self, *names):
+        return self.run(*names, command=self.root / "shell/build")
 
     def does(self, text):
         (self.rt / "does").write_text(text)
@@ -116,7 +135,7 @@ class Imitation(Tree):
 
 
 def built(root):
-    """A copy with what is built, where rt finds nothing to do."""
+    """A copy with what is built, where nothing is left for rt to do."""
     return Tree(copy(root, (*COPIED, "crates", *BUILT)))
 
 
