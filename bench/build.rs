@@ -1,4 +1,4 @@
-//! Links the archive that `rt staticlib plain` writes.
+//! Links the archive that `shell/build libplain.a` writes.
 use std::path::Path;
 
 fn main() {

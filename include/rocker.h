@@ -1,6 +1,6 @@
 /* The Rocker switch for a host in C (from C99 on) or C++ (from C++11 on). The functions of the archive are those of the proved crate
- * `capi`: link libcapi.a, which `rt staticlib capi` writes to target/staticlib/. docs/C-INTERFACE.md has the table of answers, how a host
- * keeps a journal, and an account of what is proved.
+ * `capi`: link libcapi.a, which `shell/build libcapi.a` proves and writes to target/staticlib/. docs/C-INTERFACE.md has the table of answers,
+ * how a host keeps a journal, and an account of what is proved.
  *
  * A device is a struct that the host holds. Each call answers with a number: 0 is done, and any other means that the device, guest
  * memory, the buffer and the list are as they were.

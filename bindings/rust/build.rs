@@ -1,5 +1,5 @@
-//! Links libcapi.a, the archive that `rt staticlib capi` writes: from the folder that ROCKER_ARCHIVE_DIR names, else from this
-//! repository's target/staticlib.
+//! Links libcapi.a, the archive that the repository's `shell/build libcapi.a` writes: from the folder that ROCKER_ARCHIVE_DIR names, else
+//! from the repository's target/staticlib.
 use std::env;
 use std::path::{Path, PathBuf};
 
@@ -10,7 +10,7 @@ fn main() {
     println!("cargo:rerun-if-env-changed=ROCKER_ARCHIVE_DIR");
     println!("cargo:rerun-if-changed={}", archive.display());
     if !archive.exists() {
-        println!("cargo:warning={} is not there; `rt staticlib capi` writes it", archive.display());
+        println!("cargo:warning={} is not there; the repository's shell/build libcapi.a writes it", archive.display());
     }
     println!("cargo:rustc-link-search=native={}", folder.display());
     println!("cargo:rustc-link-lib=static=capi");
