@@ -7,7 +7,7 @@ use Rattle.rules.specs.Registers.{raised}
 use Rattle.rules.specs.Tables.{tables_of, live_flows, live_groups}
 use Rattle.rules.specs.Engine.{decides_first}
 use Rattle.rules.specs.Frame.{frame_refusal}
-use Rattle.rules.specs.Switch.{Storage, order_in, switch_of, framed, refusal, refusal_by, effect, effect_by, step}
+use Rattle.rules.specs.Switch.{Storage, order_in, switch_of, framed, refusal_by, effect_by, step}
 use Rattle.rules.specs.declared.Device.{Device}
 use Rattle.rules.specs.declared.Request.TheVariants.{Frame}
 use Rattle.rules.proofs.Cases.{by_eq}

@@ -17,7 +17,7 @@ use Rattle.rules.specs.Registers.{command_ring, current_terms, terms_of, fresh_r
 use Rattle.rules.specs.Tables.{Tables, cookie_of, id_of, execute}
 use Rattle.rules.specs.Journal.{Progress, is_unread, record_agrees, tables_after, counted, ready, finish, finished, ends_in, replay, header, completion}
 use Rattle.rules.specs.Engine.{Order}
-use Rattle.rules.specs.Switch.{Switch, Borrowed, fresh_switch, unchanged, carry, carry_by, carried_slot, carried_slot_by, process_effect, process_effect_by, headed, effect, effect_by, step}
+use Rattle.rules.specs.Switch.{Switch, Borrowed, fresh_switch, unchanged, carry, carry_by, carried_slot_by, process_effect_by, headed, effect_by, step}
 use Rattle.rules.specs.declared.Terms.{Terms}
 use Rattle.rules.specs.declared.Status.TheVariants.{Ok}
 use Rattle.rules.specs.declared.Request.TheVariants.{Process, Header}

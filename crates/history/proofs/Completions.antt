@@ -9,7 +9,7 @@ use Rattle.rules.specs.Writes.{memory_after}
 use Rattle.rules.specs.Registers.{command_ring}
 use Rattle.rules.specs.Descriptor.{descriptor_at, completion_at}
 use Rattle.rules.specs.Journal.{completion, record_of}
-use Rattle.rules.specs.Switch.{Switch, Borrowed, carried_slot, slot_record, slot_record_by, process_refusal, process_writes, process_writes_by, process_effect, process_effect_by, refusal, refusal_by, step}
+use Rattle.rules.specs.Switch.{Switch, Borrowed, carried_slot, slot_record, slot_record_by, process_refusal, process_writes_by, process_effect, process_effect_by, refusal_by, step}
 use Rattle.rules.specs.declared.Status.{Status}
 use Rattle.rules.specs.declared.Request.TheVariants.{Process}
 use Rattle.rules.proofs.Bytes.{two_front}

@@ -5,7 +5,7 @@ use mathlib.Core.Path.{◌≡◌}
 use native.Mathlib.Omega.{arith}
 use Rattle.rules.specs.Ring.{complete_effect}
 use Rattle.rules.specs.Registers.{command_ring, Written, access, taken, write, with_ring, with_links}
-use Rattle.rules.specs.Switch.{Switch, Borrowed, read_effect, write_effect, linked, process_effect, process_effect_by, framed, headed, refusal, refusal_by, effect, effect_by}
+use Rattle.rules.specs.Switch.{Switch, Borrowed, read_effect, write_effect, linked, process_effect_by, framed, headed, refusal, refusal_by, effect, effect_by}
 use Rattle.rules.specs.declared.Registers.{Registers}
 use Rattle.rules.specs.declared.Request.{Request}
 use Rattle.rules.specs.declared.Request.TheVariants.{Read, Write, Link, Process, Frame, Header}

@@ -13,7 +13,7 @@ use Rattle.rules.specs.Bytes.{inside}
 use Rattle.rules.specs.Ring.{distance, complete_effect}
 use Rattle.rules.specs.Descriptor.{descriptor_at, slot_refusal}
 use Rattle.rules.specs.Registers.{command_ring, with_ring}
-use Rattle.rules.specs.Switch.{Switch, Borrowed, unchanged, slot_record, buffer_refusal, process_refusal, process_refusal_by, process_effect, process_effect_by, headed, refusal, refusal_by, effect, effect_by, step}
+use Rattle.rules.specs.Switch.{Switch, Borrowed, unchanged, slot_record, buffer_refusal, process_refusal, process_refusal_by, process_effect, process_effect_by, headed, refusal, refusal_by, effect_by, step}
 use Rattle.rules.specs.declared.Request.{Request}
 use Rattle.rules.specs.declared.Request.TheVariants.{Read, Write, Link, Process, Frame, Header}
 use Rattle.rules.proofs.Cases.{by_eq, by_test}

@@ -1,7 +1,6 @@
 -- What a host keeps by what calls tell is the journal: a reset is told exactly where the device was reset, a completion exactly where a
 -- slot was consumed.
 -- Assumes nothing.
-use Prim.Native.Nat.{ℕ}
 use mathlib.Core.Bool.{false}
 use mathlib.Core.Path.{◌≡◌, refl, ap, ◌∙◌}
 use mathlib.Core.List.{List, [], ◌∷◌}
@@ -17,7 +16,7 @@ use Rattle.rules.specs.declared.Request.{Request}
 use Rattle.rules.specs.declared.Request.TheVariants.{Read, Write, Link, Process, Frame, Header}
 use Rattle.rules.proofs.Cases.{by_eq}
 use Rattle.rules.proofs.Switch.{refused, accepted}
-use Rattle.history.specs.Trace.{Call, Seen, step_at, seen, final, trace, noted, observe}
+use Rattle.history.specs.Trace.{Call, Seen, step_at, seen, trace, noted, observe}
 use Rattle.history.specs.Events.{Event, event, write_event}
 use Rattle.history.specs.Events.Event.{Other, WritesBase, WritesSize, WritesHead, WritesCredits, ResetsRing, ResetsDevice, Processes}
 use Rattle.history.specs.JournalHistory.{JournalHistory, journal_event, notes_journal, keeps, kept_from}

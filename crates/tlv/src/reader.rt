@@ -1,6 +1,5 @@
-// A reader of a region, which holds the borrowed payload and a position. Functions over a struct that holds a reference are proved by
-// walks, so those here are thin: `step` and `after` do the work on a slice and numbers. `header` is how many of its TLV's header bytes a
-// length counts.
+// A reader of a region, which holds the borrowed payload and a position. Its functions are thin: `step` and `after` do the work on a slice
+// and numbers. `header` is how many of its TLV's header bytes a length counts.
 ghost use Rattle.std.specs.Prelude.{◌≡◌, ◌≤◌, ◌<◌, ◌^◌};
 ghost use Rattle.rules.specs.Region.{value_size, filled, step_at, after};
 
