@@ -11,7 +11,7 @@ use Rattle.rules.specs.Answers.{number}
 use Rattle.rules.specs.Choose.{choose}
 use Rattle.rules.specs.Members.{elem}
 use Rattle.rules.specs.Journal.{completion}
-use Rattle.rules.specs.Switch.{Switch, Storage, Borrowed, Result, switch_of, unchanged, unless_refused, read_effect, write_effect, linked, process_effect, process_effect_by, framed, headed, refusal, effect, effect_by, step, step_by, fresh_refusal}
+use Rattle.rules.specs.Switch.{Switch, Storage, Borrowed, Result, switch_of, unchanged, unless_refused, read_effect, write_effect, linked, process_effect_by, framed, headed, refusal, effect, effect_by, step, step_by, fresh_refusal}
 use Rattle.rules.specs.declared.Device.{Device}
 use Rattle.rules.specs.declared.Request.{Request}
 use Rattle.rules.specs.declared.Request.TheVariants.{Read, Write, Link, Process, Frame, Header}

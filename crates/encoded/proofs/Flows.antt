@@ -11,7 +11,7 @@ use lib.Dec.{eqb}
 use borrow.Author.Tests.{eq-eqb, leb-true}
 use Rattle.rules.specs.Choose.{choose}
 use Rattle.rules.specs.Limits.{field_types, max_flows, max_payload}
-use Rattle.rules.specs.Bytes.{le, bytes_of, swap16, swapped}
+use Rattle.rules.specs.Bytes.{le, bytes_of, swap16}
 use Rattle.rules.specs.Version.{current, routes}
 use Rattle.rules.specs.Region.{filled, fits_width}
 use Rattle.rules.specs.Address.{prefix_mask, prefix_length, is_ipv6, is_routed_type, address_bytes, address_bits, aligned_high, aligned_low, address_in}
@@ -21,7 +21,7 @@ use Rattle.rules.specs.Fields.{rows, rule_in, rule_of, has_user, field, is_absen
 use Rattle.rules.specs.Encode.{region_of, payload_of, number_bytes, flow_has, flow_value, flow_bytes, flow_fields}
 use Rattle.rules.specs.Undo.{flow_payload}
 use Rattle.rules.specs.Decode.{need, carried, ethertype_in, address_field, mask_field, other_absent, address_of, route_of, match_of, flow_of, match_allowed, flow_user, is_table, pair_alone, flow_in as flow_from, flow_key_in, is_command, command_in, decode}
-use Rattle.rules.specs.Tables.{Tables, stored_flow, flow_entry, cookie_of, add_status, held_status, command_status, command_status_in, with_flows, command_effect, command_effect_in, decoded_status, decoded_status_in, decoded_effect, decoded_effect_in, executed, carry_out, carry_out_in, execute, execute_in}
+use Rattle.rules.specs.Tables.{Tables, stored_flow, flow_entry, cookie_of, add_status, held_status, command_status_in, with_flows, command_effect_in, decoded_status_in, decoded_effect_in, executed, carry_out_in, execute, execute_in}
 use Rattle.rules.specs.declared.Flow.{Flow}
 use Rattle.rules.specs.declared.Command.{Command}
 use Rattle.rules.specs.declared.Command.TheVariants.{FlowAdd, FlowMod, FlowDel}

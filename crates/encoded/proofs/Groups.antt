@@ -19,7 +19,7 @@ use Rattle.rules.specs.Members.{members_right, pad}
 use Rattle.rules.specs.Registers.{current_terms}
 use Rattle.rules.specs.Keyed.{holds, insert, replace, remove}
 use Rattle.rules.specs.Decode.{need, carried, group_of, members_of, lower_fits, group_allowed, group_user, group_in, group_key_in, is_command, command_in}
-use Rattle.rules.specs.Tables.{Tables, id_of, group_entry, with_groups, add_status, held_status, command_status, command_status_in, command_effect, command_effect_in, decoded_status, decoded_status_in, decoded_effect, decoded_effect_in, executed, carry_out, carry_out_in, execute, execute_in}
+use Rattle.rules.specs.Tables.{Tables, id_of, group_entry, with_groups, add_status, held_status, command_status, command_status_in, command_effect, command_effect_in, decoded_status_in, decoded_effect_in, executed, carry_out_in, execute, execute_in}
 use Rattle.rules.specs.Encode.{region_of, payload_of, number_bytes, member_fields, group_value, group_bytes, group_fields}
 use Rattle.rules.specs.Undo.{group_payload}
 use Rattle.rules.specs.declared.Group.{Group}
