@@ -23,7 +23,7 @@ use Rattle.rules.specs.Keyed.{insert, replace, remove}
 use Rattle.rules.specs.GroupId.{group_type, group_vlan, group_low, vlan_allowed, is_routing, group_id_allowed}
 use Rattle.rules.specs.Members.{elem, member_right, collect, members_in, members_right, pad}
 use Rattle.rules.specs.Decode.{header_of, ethertype_in, address_field, address_of, route_of, new_vlan_fits, match_allowed, match_of, flow_of, flow_user, is_table, pair_alone, flow_in, flow_key_in, group_of, members_of, lower_fits, group_allowed, group_user, group_in, group_key_in, refused, carried, need, command_in, command_info, decode}
-use Rattle.rules.specs.Tables.{Tables, stored_flow, flow_entry, group_entry, cookie_of, id_of, empty_tables, with_flows, with_groups, command_effect, command_effect_in, decoded_status, decoded_effect, decoded_effect_in, executed, carry_out, carry_out_in, execute, execute_in}
+use Rattle.rules.specs.Tables.{Tables, stored_flow, flow_entry, group_entry, cookie_of, id_of, empty_tables, with_flows, with_groups, command_effect, command_effect_in, decoded_status, decoded_effect, decoded_effect_in, executed, carry_out_in, execute, execute_in}
 use Rattle.rules.specs.declared.Terms.{Terms}
 use Rattle.rules.specs.declared.Tlv.{Tlv}
 use Rattle.rules.specs.declared.Found.{Found}

@@ -17,7 +17,7 @@ use Rattle.rules.specs.GroupId.{group_type, group_vlan, group_low, vlan_allowed,
 use Rattle.rules.specs.Members.{elem, member_right, collect, members_in, members_right, pad}
 use Rattle.rules.specs.Decode.{refused, carried, need, ethertype_in, address_field, mask_field, other_absent, address_of, route_of, match_of, flow_of, group_fits, new_vlan_fits, match_allowed, flow_user, is_table, pair_alone, flow_in, flow_key_in, group_of, members_of, lower_fits, group_allowed, group_user, group_in, group_key_in, is_command, command_in, command_type, command_info, decode}
 use Rattle.rules.specs.Keyed.{position, holds, find, insert, replace, remove}
-use Rattle.rules.specs.Tables.{stored_flow, flow_entry, group_entry, empty_tables, add_status, held_status, command_status, command_status_in, with_flows, with_groups, command_effect, command_effect_in, decoded_status, decoded_status_in, decoded_effect, decoded_effect_in, executed, carry_out, carry_out_in, execute, execute_in}
+use Rattle.rules.specs.Tables.{stored_flow, flow_entry, group_entry, empty_tables, add_status, held_status, command_status_in, with_flows, with_groups, command_effect_in, decoded_status_in, decoded_effect_in, executed, carry_out_in, execute_in}
 use Rattle.rules.specs.Journal.{completion, header, record_of, begin, ready, stopped, header_refusal, terms_in, opened, header_read, is_unread, record_agrees, tables_after, counted, record_read, whole, feed, feeds, ends_in, finished, finish, replay, digits, decimal, item, line, report}
 use Rattle.rules.specs.Encode.{tlv_of, region_of, payload_of, fields_from, fields_of, number_bytes, flow_has, flow_value, flow_bytes, flow_fields, member_fields, group_value, group_bytes, group_fields}
 use Rattle.rules.specs.Undo.{record_size, records_size, first_records, tables_in, tables_then, same_bit, same_list, same_flow, same_group, picked, flow_payload, group_payload, flow_run, group_run, payloads, listed, refused_undo, written_undo, fitted, undo_from, undo, undo_report}
