@@ -93,18 +93,21 @@ fn command_in(
     ensures { result ≡ command_in terms c s.now }
 {
     if c == FLOW_ADD {
-        flow::flow_in(terms, s, header, places, true)
-    } else if c == FLOW_MOD {
-        flow::flow_in(terms, s, header, places, false)
-    } else if c == FLOW_DEL {
-        flow::flow_key_in(terms, s, header, places)
-    } else if c == GROUP_ADD {
-        group::group_in(terms, s, header, places, true)
-    } else if c == GROUP_MOD {
-        group::group_in(terms, s, header, places, false)
-    } else {
-        group::group_key_in(terms, s, header, places)
+        return flow::flow_in(terms, s, header, places, true);
     }
+    if c == FLOW_MOD {
+        return flow::flow_in(terms, s, header, places, false);
+    }
+    if c == FLOW_DEL {
+        return flow::flow_key_in(terms, s, header, places);
+    }
+    if c == GROUP_ADD {
+        return group::group_in(terms, s, header, places, true);
+    }
+    if c == GROUP_MOD {
+        return group::group_in(terms, s, header, places, false);
+    }
+    group::group_key_in(terms, s, header, places)
 }
 
 // A payload, under the terms of a device or a journal.

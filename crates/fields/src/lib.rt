@@ -252,7 +252,7 @@ const NOTHING: FieldRule = FieldRule {
 };
 
 // The rules by field type: its width, who uses it and who requires it in CMD_INFO, and the width of the member of that type.
-const FIELDS: [FieldRule; 63] = [
+static FIELDS: [FieldRule; 63] = [
     NOTHING,
     TBL_RULE,
     PRIORITY_RULE,
@@ -318,11 +318,11 @@ const FIELDS: [FieldRule; 63] = [
     UNLISTED,
 ];
 
-// The rows, for whoever goes over them: a constant array that is read at a computed index is built anew for each read.
-fn table() -> [FieldRule; 63]
-    ensures { (t : ℕ) (d : FieldRule) → t < 63 → get_or result t d ≡ rule_of t }
+// The rows, for whoever goes over them.
+fn table() -> &'static [FieldRule; 63]
+    ensures { (t : ℕ) (d : FieldRule) → t < 63 → get_or result.now t d ≡ rule_of t }
 {
-    FIELDS
+    &FIELDS
 }
 
 pub fn rule_of(t: u32) -> FieldRule

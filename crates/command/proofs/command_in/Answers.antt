@@ -42,6 +42,6 @@ pub returns-then-c-eq-GROUP_MOD : goal.returns-then-c-eq-GROUP_MOD
 returns-then-c-eq-GROUP_MOD c =
     rw (past_flows (goal.at.returns-then-c-eq-GROUP_MOD c).Else-c-eq-FLOW_DEL) (simp (ne_eqb _ _ c.if-c-eq-GROUP_ADD.false, eq-eqb _ _ c.if-c-eq-GROUP_MOD.true) c.group_in-then-c-eq-GROUP_MOD.ensures)
 
-pub returns-else-c-eq-GROUP_MOD : goal.returns-else-c-eq-GROUP_MOD
-returns-else-c-eq-GROUP_MOD c =
-    rw (past_flows (goal.at.returns-else-c-eq-GROUP_MOD c).Else-c-eq-FLOW_DEL) (simp (ne_eqb _ _ c.if-c-eq-GROUP_ADD.false, ne_eqb _ _ c.if-c-eq-GROUP_MOD.false) c.group_key_in.ensures)
+pub returns : goal.returns
+returns c =
+    rw (past_flows (goal.at.returns c).Else-c-eq-FLOW_DEL) (simp (ne_eqb _ _ c.if-c-eq-GROUP_ADD.false, ne_eqb _ _ c.if-c-eq-GROUP_MOD.false) c.group_key_in.ensures)
