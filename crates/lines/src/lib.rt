@@ -2,14 +2,34 @@
 
 #![tactic(auto)]
 
+ghost use Rattle.std.specs.Prelude.{◌≡◌};
+ghost use Rattle.lines.specs.declared.Fault.TheVariants.{Output};
+
 pub mod print;
 pub mod told;
 
-// Where the lines come from; how far the bytes that were read are used up, and how many they are; the number of the line under way, its
-// bytes so far, whether it is too long and whether it is whole; whether there may be more to read, and whether a read failed.
+use std::io;
+use std::io::Read;
+
+// Why a line has no outcome: it is no call or cannot be carried out, or what it prints cannot be written.
+#[derive(Clone, Copy)]
+pub enum Fault {
+    Line(&'static str),
+    Output(io::Error),
+}
+
+impl From<io::Error> for Fault {
+    ghost from_gives = { λ e f. f ≡ Output e };
+
+    fn from(e: io::Error) -> Fault {
+        Fault::Output(e)
+    }
+}
+
+// How far the bytes that were read are used up, and how many they are; the number of the line under way, its bytes so far, whether it is
+// too long and whether it is whole; whether there may be more to read, and why a read failed.
 #[derive(Clone, Copy)]
 pub struct Reader {
-    pub fd: i32,
     pub at: usize,
     pub got: usize,
     pub lines: u64,
@@ -17,12 +37,11 @@ pub struct Reader {
     pub long: bool,
     pub whole: bool,
     pub more: bool,
-    pub fails: bool,
+    pub failure: Option<io::Error>,
 }
 
-pub fn start(fd: i32) -> Reader {
+pub fn start() -> Reader {
     Reader {
-        fd: fd,
         at: 0,
         got: 0,
         lines: 0,
@@ -30,7 +49,7 @@ pub fn start(fd: i32) -> Reader {
         long: false,
         whole: false,
         more: true,
-        fails: false,
+        failure: None,
     }
 }
 
@@ -59,24 +78,27 @@ fn copy(r: Reader, input: &[u8], line: &mut [u8]) -> Reader {
     q
 }
 
-fn refill(r: Reader, input: &mut [u8]) -> Reader {
+fn refill<R: Read>(r: Reader, from: &mut R, input: &mut [u8]) -> Reader {
     let mut q = r;
-    let got = libc::read(r.fd, input);
-    if got <= 0 {
-        q.more = false;
-        q.fails = got < 0;
-        return q;
+    match from.read(input) {
+        Ok(0) => q.more = false,
+        Ok(got) => {
+            q.at = 0;
+            q.got = got;
+        }
+        Err(e) => {
+            q.more = false;
+            q.failure = Some(e);
+        }
     }
-    q.at = 0;
-    q.got = io::count(got, input);
     q
 }
 
-fn step(r: Reader, input: &mut [u8], line: &mut [u8]) -> Reader {
+fn step<R: Read>(r: Reader, from: &mut R, input: &mut [u8], line: &mut [u8]) -> Reader {
     if r.at < r.got {
         return copy(r, input, line);
     }
-    refill(r, input)
+    refill(r, from, input)
 }
 
 // How long a line is without the CR before its LF.
@@ -94,16 +116,17 @@ fn without_cr(line: &[u8], used: usize) -> usize {
 
 // The next line, without its end: LF, or CR LF. A last one needs no newline, and keeps a CR; after it stands an empty one. Where a read
 // fails, the line under way is not whole and is no line.
-pub fn take(r: Reader, input: &mut [u8], line: &mut [u8]) -> Reader {
+pub fn take<R: Read>(r: Reader, from: &mut R, input: &mut [u8], line: &mut [u8]) -> Reader {
     let mut q = r;
-    q.lines = std::num::wrapping_add_u64(r.lines, 1);
+    q.lines = r.lines.wrapping_add(1);
     q.used = 0;
     q.long = false;
     q.whole = false;
-    let mut turns = u64::MAX;
-    while turns > 0 && q.more && !q.whole {
-        q = step(q, input, line);
-        turns -= 1;
+    for _ in 0..u64::MAX {
+        if !q.more || q.whole {
+            break;
+        }
+        q = step(q, from, input, line);
     }
     if q.whole {
         q.used = without_cr(line, q.used);

@@ -1,28 +1,23 @@
-// Parts of a line on standard output, complaints on standard error.
+// Parts of a line, each written to where it is told, and complaints on standard error.
 use crate::told;
-use libc::{STDERR_FILENO, STDOUT_FILENO};
+use std::io;
+use std::io::Write;
 
-pub fn complain(line: u64, why: &[u8]) {
-    io::write_all(STDERR_FILENO, b"console: line ");
-    io::print_decimal(STDERR_FILENO, line);
-    io::write_all(STDERR_FILENO, b": ");
-    io::write_all(STDERR_FILENO, why);
-    io::write_all(STDERR_FILENO, b"\n");
+// A complaint that cannot be written is told nowhere.
+pub fn complain<E: Eprint>(rt: &E, line: u64, why: &str) {
+    let _ = eprintln!(rt; "console: line {line}: {why}");
 }
 
 // A space, and a number.
-pub fn value(v: u64) {
-    io::write_all(STDOUT_FILENO, b" ");
-    io::print_decimal(STDOUT_FILENO, v);
+pub fn value<W: Write>(out: &mut W, v: u64) -> io::Result<()> {
+    write!(out, " {v}")
 }
 
-pub fn end() {
-    io::write_all(STDOUT_FILENO, b"\n");
+pub fn end<W: Write>(out: &mut W) -> io::Result<()> {
+    out.write_all(b"\n")
 }
 
 // Bytes as digits, - for none.
-pub fn bytes(s: &[u8]) {
-    let mut text = io::buffer();
-    let g = told::digits(told::nothing(), &mut text, s);
-    told::flush(g, &text);
+pub fn bytes<W: Write>(out: &mut W, s: &[u8]) -> io::Result<()> {
+    told::digits(out, s)
 }

@@ -1,212 +1,177 @@
-// Outcomes on standard output, a line each. A line is gathered and written at once where the buffer holds it. Each function says whether
-// all of its line is written; behind a write that failed nothing more of a line is.
-ghost use Rattle.std.specs.Prelude.{◌<◌, ◌≤◌};
+// Outcomes, a line each, written to where they are told and flushed at their end; `Gathered` writes a line at once where its buffer holds
+// it. Each function says whether all of its line is written; behind a write that failed nothing more of a line is.
+use std::io;
+use std::io::Write;
 
-use libc::STDOUT_FILENO;
-
-// How many bytes wait in the buffer, and whether all before them is written.
-#[derive(Clone, Copy)]
-pub struct Gathered {
-    pub used: usize,
-    pub written: bool,
+// A writer, and what waits to be written to it. What waits is let go with it.
+#[derive(Drop)]
+pub struct Gathered<W: Write + Drop> {
+    out: W,
+    text: [u8; 4096],
+    used: usize,
 }
 
-pub fn nothing() -> Gathered {
-    Gathered {
-        used: 0,
-        written: true,
-    }
-}
-
-fn write(g: Gathered, s: &[u8]) -> Gathered {
-    Gathered {
-        used: 0,
-        written: g.written && io::write_all(STDOUT_FILENO, s),
-    }
-}
-
-// Writes what waits.
-pub fn flush(g: Gathered, text: &[u8]) -> Gathered {
-    let used = g.used;
-    if used <= text.len() {
-        return write(g, &text[0..used]);
-    }
-    write(g, text)
-}
-
-fn copy(s: &[u8], to: &mut [u8]) {
-    let mut i = 0;
-    while i < s.len() && i < to.len() {
-        to[i] = s[i];
-        i += 1;
-    }
-}
-
-// Bytes behind those that wait. What the buffer has no room for is written, after what waits.
-fn put(g: Gathered, text: &mut [u8], s: &[u8]) -> Gathered {
-    let used = g.used;
-    if used <= text.len() {
-        if s.len() <= text.len() - used {
-            copy(s, &mut text[used..]);
-            return Gathered {
-                used: used + s.len(),
-                written: g.written,
-            };
+impl<W: Write + Drop> Gathered<W> {
+    pub fn nothing(out: W) -> Gathered<W> {
+        Gathered {
+            out,
+            text: [0; 4096],
+            used: 0,
         }
     }
-    let q = flush(g, text);
-    write(q, s)
+
+    // Writes what waits. It waits no longer, also where that fails.
+    fn pass_on(&mut self) -> io::Result<()> {
+        let used = self.used;
+        self.used = 0;
+        if used <= 4096 {
+            return self.out.write_all(&self.text[..used]);
+        }
+        self.out.write_all(&self.text)
+    }
 }
 
-fn number(g: Gathered, text: &mut [u8], v: u64) -> Gathered {
-    let mut digits = [0u8; 20];
-    let n = io::decimal(v, &mut digits);
-    put(g, text, &digits[..n])
+impl<W: Write + Drop> Write for Gathered<W> {
+    // Bytes behind those that wait. What the buffer has no room for is written, after what waits.
+    fn write(&mut self, s: &[u8]) -> io::Result<usize> {
+        let used = self.used;
+        if used <= 4096 {
+            if s.len() <= 4096 - used {
+                let end = used + s.len();
+                self.text[used..end].copy_from_slice(s);
+                self.used = end;
+                return Ok(s.len());
+            }
+        }
+        self.pass_on()?;
+        self.out.write_all(s)?;
+        Ok(s.len())
+    }
+
+    // Writes what waits.
+    fn flush(&mut self) -> io::Result<()> {
+        self.pass_on()?;
+        self.out.flush()
+    }
 }
 
 // A space, and a number.
-pub fn next(g: Gathered, text: &mut [u8], v: u64) -> Gathered {
-    let q = put(g, text, b" ");
-    number(q, text, v)
+pub fn next<W: Write>(out: &mut W, v: u64) -> io::Result<()> {
+    write!(out, " {v}")
 }
 
 // A space, and whether vector 0 was raised.
-fn vector(g: Gathered, text: &mut [u8], interrupt: bool) -> Gathered {
+fn vector<W: Write>(out: &mut W, interrupt: bool) -> io::Result<()> {
     if interrupt {
-        put(g, text, b" 0")
+        out.write_all(b" 0")
     } else {
-        put(g, text, b" -")
+        out.write_all(b" -")
     }
 }
 
-fn spelled(g: Gathered, text: &mut [u8], s: &[u8], digits: &mut [u8]) -> Gathered {
+fn spelled<W: Write>(out: &mut W, s: &[u8], digits: &mut [u8]) -> io::Result<()> {
     hexadecimal::spell(s, digits);
-    put(g, text, digits)
+    out.write_all(digits)
 }
 
-fn doubled(g: Gathered, text: &mut [u8], s: &[u8], digits: &mut [u8]) -> Gathered {
+fn doubled<W: Write>(out: &mut W, s: &[u8], digits: &mut [u8]) -> io::Result<()> {
     if s.len() <= digits.len() / 2 {
         let n = 2 * s.len();
-        return spelled(g, text, s, &mut digits[0..n]);
+        return spelled(out, s, &mut digits[0..n]);
     }
-    g
+    Ok(())
 }
 
-fn part(g: Gathered, text: &mut [u8], s: &[u8]) -> Gathered {
+fn part<W: Write>(out: &mut W, s: &[u8]) -> io::Result<()> {
     let mut digits = [0u8; 4096];
-    doubled(g, text, s, &mut digits)
+    doubled(out, s, &mut digits)
 }
 
-// Where the part that starts at a position ends: parts have 2048 bytes.
-fn part_end(at: usize, end: usize) -> usize
-    requires { at < end }
-    ensures { (at < result) × (result ≤ end) }
-{
-    if 2048 < end - at { at + 2048 } else { end }
-}
-
-// Bytes as digits, - for none.
-pub fn digits(g: Gathered, text: &mut [u8], s: &[u8]) -> Gathered {
+// Bytes as digits, - for none. They go in parts of 2048 bytes.
+pub fn digits<W: Write>(out: &mut W, s: &[u8]) -> io::Result<()> {
     if s.len() == 0 {
-        return put(g, text, b"-");
+        return out.write_all(b"-");
     }
-    let mut q = g;
-    let mut at = 0;
-    while at < s.len() {
-        let end = part_end(at, s.len());
-        q = part(q, text, &s[at..end]);
-        at = end;
+    for piece in s.chunks(2048) {
+        part(out, piece)?;
     }
-    q
+    Ok(())
 }
 
 // A space, and bytes.
-fn spaced(g: Gathered, text: &mut [u8], s: &[u8]) -> Gathered {
-    let q = put(g, text, b" ");
-    digits(q, text, s)
-}
-
-fn wide(v: u16) -> u64 {
-    v as u64
-}
-
-fn nth(g: Gathered, text: &mut [u8], list: &[u16], k: usize) -> Gathered {
-    if k < list.len() {
-        return next(g, text, wide(list[k]));
-    }
-    g
+fn spaced<W: Write>(out: &mut W, s: &[u8]) -> io::Result<()> {
+    out.write_all(b" ")?;
+    digits(out, s)
 }
 
 // The first numbers of a list.
-fn numbers(g: Gathered, text: &mut [u8], list: &[u16], n: usize) -> Gathered {
-    let mut q = g;
-    let mut k = 0;
-    while k < n {
-        q = nth(q, text, list, k);
-        k += 1;
+fn numbers<W: Write>(out: &mut W, list: &[u16], n: usize) -> io::Result<()> {
+    for number in list.iter().take(n) {
+        next(out, *number as u64)?;
     }
-    q
+    Ok(())
 }
 
 // Ends the line, and writes it.
-fn end(g: Gathered, text: &mut [u8]) -> bool {
-    let q = put(g, text, b"\n");
-    let last = flush(q, text);
-    last.written
+fn end<W: Write>(out: &mut W) -> io::Result<()> {
+    out.write_all(b"\n")?;
+    out.flush()
 }
 
 // ANSWER
-pub fn answer(answer: u64) -> bool {
-    let mut text = io::buffer();
-    let g = number(nothing(), &mut text, answer);
-    end(g, &mut text)
+pub fn answer<W: Write>(out: &mut W, answer: u64) -> io::Result<()> {
+    write!(out, "{answer}")?;
+    end(out)
 }
 
 // ANSWER VALUE
-pub fn value(answer: u64, v: u64) -> bool {
-    let mut text = io::buffer();
-    let g = number(nothing(), &mut text, answer);
-    let q = next(g, &mut text, v);
-    end(q, &mut text)
+pub fn value<W: Write>(out: &mut W, answer: u64, v: u64) -> io::Result<()> {
+    write!(out, "{answer} {v}")?;
+    end(out)
 }
 
 // ANSWER RAISED
-pub fn raised(answer: u64, interrupt: bool) -> bool {
-    let mut text = io::buffer();
-    let g = number(nothing(), &mut text, answer);
-    let q = vector(g, &mut text, interrupt);
-    end(q, &mut text)
+pub fn raised<W: Write>(out: &mut W, answer: u64, interrupt: bool) -> io::Result<()> {
+    write!(out, "{answer}")?;
+    vector(out, interrupt)?;
+    end(out)
 }
 
 // ANSWER RAISED RECORD
-pub fn record(answer: u64, interrupt: bool, record: &[u8]) -> bool {
-    let mut text = io::buffer();
-    let g = number(nothing(), &mut text, answer);
-    let v = vector(g, &mut text, interrupt);
-    let q = spaced(v, &mut text, record);
-    end(q, &mut text)
+pub fn record<W: Write>(
+    out: &mut W,
+    answer: u64,
+    interrupt: bool,
+    record: &[u8],
+) -> io::Result<()> {
+    write!(out, "{answer}")?;
+    vector(out, interrupt)?;
+    spaced(out, record)?;
+    end(out)
 }
 
 // ANSWER HEADER
-pub fn header(answer: u64, header: &[u8]) -> bool {
-    let mut text = io::buffer();
-    let g = number(nothing(), &mut text, answer);
-    let q = spaced(g, &mut text, header);
-    end(q, &mut text)
+pub fn header<W: Write>(out: &mut W, answer: u64, header: &[u8]) -> io::Result<()> {
+    write!(out, "{answer}")?;
+    spaced(out, header)?;
+    end(out)
 }
 
 // ANSWER N, and the first numbers of a list.
-pub fn outputs(answer: u64, n: u64, list: &[u16], count: usize) -> bool {
-    let mut text = io::buffer();
-    let g = number(nothing(), &mut text, answer);
-    let h = next(g, &mut text, n);
-    let q = numbers(h, &mut text, list, count);
-    end(q, &mut text)
+pub fn outputs<W: Write>(
+    out: &mut W,
+    answer: u64,
+    n: u64,
+    list: &[u16],
+    count: usize,
+) -> io::Result<()> {
+    write!(out, "{answer} {n}")?;
+    numbers(out, list, count)?;
+    end(out)
 }
 
 // The bytes alone.
-pub fn bytes(s: &[u8]) -> bool {
-    let mut text = io::buffer();
-    let q = digits(nothing(), &mut text, s);
-    end(q, &mut text)
+pub fn bytes<W: Write>(out: &mut W, s: &[u8]) -> io::Result<()> {
+    digits(out, s)?;
+    end(out)
 }
