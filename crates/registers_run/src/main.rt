@@ -3,192 +3,165 @@
 
 #![tactic(auto)]
 
-use libc::{STDERR_FILENO, STDIN_FILENO};
-use lines::{Reader, told};
+use lines::told::Gathered;
+use lines::{Fault, Reader, told};
 use rules::Registers;
+use std::io;
+use std::io::{Read, Write};
 use text::Numeral;
 
-// A script under way; `more` as the reader says it.
-#[derive(Clone, Copy)]
-struct Script {
-    registers: Registers,
-    reader: Reader,
-    more: bool,
-}
-
-fn complain(line: u64, why: &[u8]) {
-    io::write_all(STDERR_FILENO, b"registers_run: line ");
-    io::print_decimal(STDERR_FILENO, line);
-    io::write_all(STDERR_FILENO, b": ");
-    io::write_all(STDERR_FILENO, why);
-    io::write_all(STDERR_FILENO, b"\n");
-}
-
-fn not_a_number(line: u64) {
-    complain(line, b"not a number of 64 bits");
-}
+const NOT_A_NUMBER: Fault = Fault::Line("not a number of 64 bits");
 
 // fresh PORTS SWITCH_ID. A refused one keeps the device that was there.
-fn run_fresh(d: Registers, s: &[u8], line: u64) -> Registers {
+fn run_fresh<W: Write>(out: &mut W, d: Registers, s: &[u8]) -> Result<Registers, Fault> {
     if text::count(s) != 3 {
-        complain(line, b"expected fresh PORTS SWITCH_ID");
-        return d;
+        return Err(Fault::Line("expected fresh PORTS SWITCH_ID"));
     }
     let Numeral::Number(ports) = text::argument(s, 1) else {
-        not_a_number(line);
-        return d;
+        return Err(NOT_A_NUMBER);
     };
     let Numeral::Number(switch_id) = text::argument(s, 2) else {
-        not_a_number(line);
-        return d;
+        return Err(NOT_A_NUMBER);
     };
     let r = registers::fresh(ports, switch_id);
     let answer = r.answer;
-    told::answer(answers::number(answer));
+    told::answer(out, answers::number(answer))?;
     if answers::number(answer) != 0 {
-        return d;
+        return Ok(d);
     }
     let after = r.registers;
-    after
+    Ok(after)
 }
 
 // link PORT UP, where UP is 0 or 1.
-fn run_link(d: Registers, s: &[u8], line: u64) -> Registers {
+fn run_link<W: Write>(out: &mut W, d: Registers, s: &[u8]) -> Result<Registers, Fault> {
     if text::count(s) != 3 {
-        complain(line, b"expected link PORT UP");
-        return d;
+        return Err(Fault::Line("expected link PORT UP"));
     }
     let Numeral::Number(port) = text::argument(s, 1) else {
-        not_a_number(line);
-        return d;
+        return Err(NOT_A_NUMBER);
     };
     let Numeral::Number(up) = text::argument(s, 2) else {
-        not_a_number(line);
-        return d;
+        return Err(NOT_A_NUMBER);
     };
     if 1 < up {
-        complain(line, b"UP is 0 or 1");
-        return d;
+        return Err(Fault::Line("UP is 0 or 1"));
     }
     let r = registers::link(d, port, up == 1);
     let answer = r.answer;
-    told::answer(answers::number(answer));
+    told::answer(out, answers::number(answer))?;
     let after = r.registers;
-    after
+    Ok(after)
 }
 
 // read WIDTH OFFSET
-fn run_read(d: Registers, s: &[u8], line: u64) {
+fn run_read<W: Write>(out: &mut W, d: Registers, s: &[u8]) -> Result<(), Fault> {
     if text::count(s) != 3 {
-        complain(line, b"expected read WIDTH OFFSET");
-        return;
+        return Err(Fault::Line("expected read WIDTH OFFSET"));
     }
     let Numeral::Number(width) = text::argument(s, 1) else {
-        not_a_number(line);
-        return;
+        return Err(NOT_A_NUMBER);
     };
     let Numeral::Number(offset) = text::argument(s, 2) else {
-        not_a_number(line);
-        return;
+        return Err(NOT_A_NUMBER);
     };
     let r = registers::read(d, offset, width);
     let answer = r.answer;
-    told::value(answers::number(answer), r.value);
+    told::value(out, answers::number(answer), r.value)?;
+    Ok(())
 }
 
 // write WIDTH OFFSET VALUE
-fn run_write(d: Registers, s: &[u8], line: u64) -> Registers {
+fn run_write<W: Write>(out: &mut W, d: Registers, s: &[u8]) -> Result<Registers, Fault> {
     if text::count(s) != 4 {
-        complain(line, b"expected write WIDTH OFFSET VALUE");
-        return d;
+        return Err(Fault::Line("expected write WIDTH OFFSET VALUE"));
     }
     let Numeral::Number(width) = text::argument(s, 1) else {
-        not_a_number(line);
-        return d;
+        return Err(NOT_A_NUMBER);
     };
     let Numeral::Number(offset) = text::argument(s, 2) else {
-        not_a_number(line);
-        return d;
+        return Err(NOT_A_NUMBER);
     };
     let Numeral::Number(value) = text::argument(s, 3) else {
-        not_a_number(line);
-        return d;
+        return Err(NOT_A_NUMBER);
     };
     let r = registers::write(d, offset, width, value);
     let answer = r.answer;
-    told::raised(answers::number(answer), r.interrupt);
+    told::raised(out, answers::number(answer), r.interrupt)?;
     let after = r.registers;
-    after
+    Ok(after)
 }
 
 // One line. Empty ones and those that begin with # are passed over.
-fn run_line(d: Registers, s: &[u8], line: u64) -> Registers {
+fn run_line<W: Write>(out: &mut W, d: Registers, s: &[u8]) -> Result<Registers, Fault> {
     if s.len() == 0 {
-        return d;
+        return Ok(d);
     }
     if s[0] == b'#' {
-        return d;
+        return Ok(d);
     }
-    let name = text::word(s, 0);
-    if check::same(name, b"fresh") {
-        return run_fresh(d, s, line);
+    match text::word(s, 0) {
+        b"fresh" => run_fresh(out, d, s),
+        b"link" => run_link(out, d, s),
+        b"read" => {
+            run_read(out, d, s)?;
+            Ok(d)
+        }
+        b"write" => run_write(out, d, s),
+        _ => Err(Fault::Line("unknown call")),
     }
-    if check::same(name, b"link") {
-        return run_link(d, s, line);
-    }
-    if check::same(name, b"read") {
-        run_read(d, s, line);
-        return d;
-    }
-    if check::same(name, b"write") {
-        return run_write(d, s, line);
-    }
-    complain(line, b"unknown call");
-    d
 }
 
 // The line that a reader has taken.
-fn run_taken(d: Registers, r: Reader, line: &[u8]) -> Registers {
+fn run_taken<W: Write>(
+    out: &mut W,
+    d: Registers,
+    r: Reader,
+    line: &[u8],
+) -> Result<Registers, Fault> {
     if r.long {
-        complain(r.lines, b"too long");
-        return d;
+        return Err(Fault::Line("too long"));
     }
     let used = numbers::min(r.used, line.len());
-    run_line(d, &line[0..used], r.lines)
+    run_line(out, d, &line[0..used])
 }
 
-// One line taken and run.
-fn turn(p: Script, input: &mut [u8; 4096], line: &mut [u8; 256]) -> Script {
-    let before = p.reader;
-    let reader = lines::take(before, input, line);
-    let d = p.registers;
-    let after = run_taken(d, reader, line);
-    Script {
-        registers: after,
-        reader: reader,
-        more: reader.more,
+// The device after a line. One that is reported leaves it.
+fn after_line<E: Eprint>(
+    rt: &E,
+    line: u64,
+    d: Registers,
+    done: Result<Registers, Fault>,
+) -> io::Result<Registers> {
+    match done {
+        Ok(after) => Ok(after),
+        Err(Fault::Line(why)) => {
+            let _ = eprintln!(rt; "registers_run: line {line}: {why}");
+            Ok(d)
+        }
+        Err(Fault::Output(e)) => Err(e),
     }
 }
 
-fn begin() -> Script {
-    let none = registers::fresh(0, 0);
-    let d = none.registers;
-    let reader = lines::start(STDIN_FILENO);
-    Script {
-        registers: d,
-        reader: reader,
-        more: true,
-    }
-}
-
-// A proved loop ends, and nothing says that the input does: the turns count down from a number that no run uses up.
-fn main() {
-    let mut p = begin();
+// Runs the script to its end, or to a write that fails. A proved loop ends, and nothing says that the input does: no run comes to the end
+// of its turns.
+fn run<E: Eprint, R: Read, W: Write>(rt: &E, from: &mut R, out: &mut W) -> io::Result<()> {
+    let mut d = registers::fresh(0, 0).registers;
+    let mut reader = lines::start();
     let mut input = [0u8; 4096];
     let mut line = [0u8; 256];
-    let mut turns = u64::MAX;
-    while turns > 0 && p.more {
-        p = turn(p, &mut input, &mut line);
-        turns -= 1;
+    for _ in 0..u64::MAX {
+        if !reader.more {
+            break;
+        }
+        reader = lines::take(reader, from, &mut input, &mut line);
+        let done = run_taken(out, d, reader, &line);
+        d = after_line(rt, reader.lines, d, done)?;
     }
+    Ok(())
+}
+
+fn main(rt: HostRuntime) -> io::Result<()> {
+    let mut out = Gathered::nothing(rt.stdout());
+    run(&rt, &mut rt.stdin(), &mut out)
 }
