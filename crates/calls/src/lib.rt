@@ -1,95 +1,70 @@
 // The calls of a device, each from its line: its numbers are handed over as they are, and its outcome is printed. A line that is no call is
-// reported.
+// a fault. A fault gives no device: the one before the line is the caller's own.
 
 #![tactic(auto)]
 
 use hexadecimal::Counted;
-use lines::{print, told};
+use lines::{Fault, told};
 use rules::{Device, FlowOrder, FlowRows, GroupHeads, GroupMembers, LIST_NUMBERS, OUTPUT_NUMBERS};
+use std::io::Write;
 use text::Numeral;
 
-// The device after a line, and whether all that the line prints is written.
-#[derive(Clone, Copy)]
-pub struct Done {
-    pub device: Device,
-    pub written: bool,
-}
-
-// A line that is reported leaves the device.
-fn reported(d: Device) -> Done {
-    Done {
-        device: d,
-        written: true,
-    }
-}
-
 // link PORT UP
-fn link(d: Device, s: &[u8], line: u64) -> Done {
+fn link<W: Write>(out: &mut W, d: Device, s: &[u8]) -> Result<Device, Fault> {
     let n = text::arguments(s, 3);
     if !n.good {
-        print::complain(line, b"expected link PORT UP");
-        return reported(d);
+        return Err(Fault::Line("expected link PORT UP"));
     }
     if 1 < n.b {
-        print::complain(line, b"UP is 0 or 1");
-        return reported(d);
+        return Err(Fault::Line("UP is 0 or 1"));
     }
     let r = device::link(d, n.a, n.b == 1);
     let answer = r.answer;
     let after = r.device;
-    Done {
-        device: after,
-        written: told::answer(answers::number(answer)),
-    }
+    told::answer(out, answers::number(answer))?;
+    Ok(after)
 }
 
 // read WIDTH OFFSET
-fn read(d: Device, s: &[u8], line: u64) -> Done {
+fn read<W: Write>(out: &mut W, d: Device, s: &[u8]) -> Result<Device, Fault> {
     let n = text::arguments(s, 3);
     if !n.good {
-        print::complain(line, b"expected read WIDTH OFFSET");
-        return reported(d);
+        return Err(Fault::Line("expected read WIDTH OFFSET"));
     }
     let r = device::read(d, n.b, n.a);
     let answer = r.answer;
     let after = r.device;
-    Done {
-        device: after,
-        written: told::value(answers::number(answer), r.value),
-    }
+    told::value(out, answers::number(answer), r.value)?;
+    Ok(after)
 }
 
 // write WIDTH OFFSET VALUE
-fn write(d: Device, s: &[u8], line: u64) -> Done {
+fn write<W: Write>(out: &mut W, d: Device, s: &[u8]) -> Result<Device, Fault> {
     let n = text::arguments(s, 4);
     if !n.good {
-        print::complain(line, b"expected write WIDTH OFFSET VALUE");
-        return reported(d);
+        return Err(Fault::Line("expected write WIDTH OFFSET VALUE"));
     }
     let r = device::write(d, n.b, n.a, n.c);
     let answer = r.answer;
     let after = r.device;
-    Done {
-        device: after,
-        written: told::raised(answers::number(answer), r.interrupt),
-    }
+    told::raised(out, answers::number(answer), r.interrupt)?;
+    Ok(after)
 }
 
 // How many bytes of the buffer `work` or `header` may use.
-fn room(s: &[u8], line: u64) -> Counted {
+fn room(s: &[u8]) -> Result<usize, Fault> {
     let n = text::arguments(s, 2);
     if !n.good {
-        print::complain(line, b"expected one number, ROOM");
-        return Counted::Malformed;
+        return Err(Fault::Line("expected one number, ROOM"));
     }
     if 65536 < n.a {
-        print::complain(line, b"ROOM is at most 65536");
-        return Counted::Malformed;
+        return Err(Fault::Line("ROOM is at most 65536"));
     }
-    Counted::Bytes(n.a as usize)
+    Ok(n.a as usize)
 }
 
-fn worked(
+fn worked<W: Write>(
+    out: &mut W,
     d: Device,
     memory: &mut [u8],
     buffer: &mut [u8],
@@ -97,78 +72,77 @@ fn worked(
     heads: &mut GroupHeads,
     members: &mut GroupMembers,
     order: &mut FlowOrder,
-) -> Done {
+) -> Result<Device, Fault> {
     let r = device::process(d, memory, buffer, flows, heads, members, order);
     let answer = r.answer;
     let after = r.device;
     let n = numbers::min(r.written, buffer.len());
-    Done {
-        device: after,
-        written: told::record(answers::number(answer), r.interrupt, &buffer[0..n]),
-    }
+    told::record(out, answers::number(answer), r.interrupt, &buffer[0..n])?;
+    Ok(after)
 }
 
 // work ROOM
-fn work(
+fn work<W: Write>(
+    out: &mut W,
     d: Device,
     s: &[u8],
-    line: u64,
     memory: &mut [u8],
     buffer: &mut [u8],
     flows: &mut FlowRows,
     heads: &mut GroupHeads,
     members: &mut GroupMembers,
     order: &mut FlowOrder,
-) -> Done {
-    let Counted::Bytes(size) = room(s, line) else {
-        return reported(d);
-    };
+) -> Result<Device, Fault> {
+    let size = room(s)?;
     let n = numbers::min(size, buffer.len());
-    worked(d, memory, &mut buffer[0..n], flows, heads, members, order)
+    worked(
+        out,
+        d,
+        memory,
+        &mut buffer[0..n],
+        flows,
+        heads,
+        members,
+        order,
+    )
 }
 
-fn headed(d: Device, buffer: &mut [u8]) -> Done {
+fn headed<W: Write>(out: &mut W, d: Device, buffer: &mut [u8]) -> Result<Device, Fault> {
     let r = device::header(d, buffer);
     let answer = r.answer;
     let after = r.device;
     let n = numbers::min(r.written, buffer.len());
-    Done {
-        device: after,
-        written: told::header(answers::number(answer), &buffer[0..n]),
-    }
+    told::header(out, answers::number(answer), &buffer[0..n])?;
+    Ok(after)
 }
 
 // header ROOM
-fn header(d: Device, s: &[u8], line: u64, buffer: &mut [u8]) -> Done {
-    let Counted::Bytes(size) = room(s, line) else {
-        return reported(d);
-    };
+fn header<W: Write>(out: &mut W, d: Device, s: &[u8], buffer: &mut [u8]) -> Result<Device, Fault> {
+    let size = room(s)?;
     let n = numbers::min(size, buffer.len());
-    headed(d, &mut buffer[0..n])
+    headed(out, d, &mut buffer[0..n])
 }
 
 // A frame's list: as many numbers as it may need, or LISTLEN.
-fn list_length(s: &[u8], line: u64) -> Counted {
+fn list_length(s: &[u8]) -> Result<usize, Fault> {
     if text::count(s) == 3 {
-        return Counted::Bytes(LIST_NUMBERS);
+        return Ok(LIST_NUMBERS);
     }
     if text::count(s) != 4 {
-        print::complain(line, b"expected frame PORT HEX [LISTLEN]");
-        return Counted::Malformed;
+        return Err(Fault::Line("expected frame PORT HEX [LISTLEN]"));
     }
     let Numeral::Number(n) = text::argument(s, 3) else {
-        print::complain(line, b"not a number of 64 bits");
-        return Counted::Malformed;
+        return Err(Fault::Line("not a number of 64 bits"));
     };
     if 1024 < n {
-        print::complain(line, b"LISTLEN is at most 1024");
-        return Counted::Malformed;
+        return Err(Fault::Line("LISTLEN is at most 1024"));
     }
-    Counted::Bytes(n as usize)
+    Ok(n as usize)
 }
 
 // Nine numbers to an output.
-fn forward(
+fn forward<W: Write>(
+    out: &mut W,
     d: Device,
     port: u64,
     f: &[u8],
@@ -177,15 +151,17 @@ fn forward(
     heads: &GroupHeads,
     members: &GroupMembers,
     order: &FlowOrder,
-) -> bool {
+) -> Result<(), Fault> {
     let r = device::frame(d, port, f, list, flows, heads, members, order);
     let answer = r.answer;
     let n = r.outputs;
     let count = OUTPUT_NUMBERS * numbers::min(n, 113);
-    told::outputs(answers::number(answer), n as u64, list, count)
+    told::outputs(out, answers::number(answer), n as u64, list, count)?;
+    Ok(())
 }
 
-fn filled(
+fn filled<W: Write>(
+    out: &mut W,
     d: Device,
     port: u64,
     digits: &[u8],
@@ -195,38 +171,35 @@ fn filled(
     heads: &GroupHeads,
     members: &GroupMembers,
     order: &FlowOrder,
-) -> bool {
+) -> Result<(), Fault> {
     hexadecimal::bytes(digits, f);
-    forward(d, port, f, list, flows, heads, members, order)
+    forward(out, d, port, f, list, flows, heads, members, order)
 }
 
 // frame PORT HEX [LISTLEN]. The buffer holds the frame.
-fn frame(
+fn frame<W: Write>(
+    out: &mut W,
     d: Device,
     s: &[u8],
-    line: u64,
     buffer: &mut [u8],
     list: &mut [u16],
     flows: &FlowRows,
     heads: &GroupHeads,
     members: &GroupMembers,
     order: &FlowOrder,
-) -> bool {
-    let Counted::Bytes(long) = list_length(s, line) else {
-        return true;
-    };
+) -> Result<(), Fault> {
+    let long = list_length(s)?;
     let Numeral::Number(port) = text::argument(s, 1) else {
-        print::complain(line, b"not a number of 64 bits");
-        return true;
+        return Err(Fault::Line("not a number of 64 bits"));
     };
     let digits = text::word(s, 2);
     let Counted::Bytes(count) = hexadecimal::count(digits) else {
-        print::complain(line, b"malformed bytes");
-        return true;
+        return Err(Fault::Line("malformed bytes"));
     };
     let n = numbers::min(count, buffer.len());
     let k = numbers::min(long, list.len());
     filled(
+        out,
         d,
         port,
         digits,
@@ -240,40 +213,34 @@ fn frame(
 }
 
 // A line that calls the device and needs no table.
-fn without_tables(d: Device, s: &[u8], line: u64, buffer: &mut [u8]) -> Done {
-    let name = text::word(s, 0);
-    if check::same(name, b"link") {
-        return link(d, s, line);
+fn without_tables<W: Write>(
+    out: &mut W,
+    d: Device,
+    s: &[u8],
+    buffer: &mut [u8],
+) -> Result<Device, Fault> {
+    match text::word(s, 0) {
+        b"link" => link(out, d, s),
+        b"read" => read(out, d, s),
+        b"write" => write(out, d, s),
+        b"header" => header(out, d, s, buffer),
+        _ => Err(Fault::Line("no call")),
     }
-    if check::same(name, b"read") {
-        return read(d, s, line);
-    }
-    if check::same(name, b"write") {
-        return write(d, s, line);
-    }
-    if check::same(name, b"header") {
-        return header(d, s, line, buffer);
-    }
-    print::complain(line, b"no call");
-    reported(d)
-}
-
-fn is_either(name: &[u8], one: &[u8], other: &[u8]) -> bool {
-    check::same(name, one) | check::same(name, other)
 }
 
 // Whether a word is the name of a call of the device.
 pub fn is_call(name: &[u8]) -> bool {
-    is_either(name, b"link", b"header")
-        | is_either(name, b"read", b"write")
-        | is_either(name, b"work", b"frame")
+    matches!(
+        name,
+        b"link" | b"header" | b"read" | b"write" | b"work" | b"frame"
+    )
 }
 
 // A line that calls the device.
-pub fn call(
+pub fn call<W: Write>(
+    out: &mut W,
     d: Device,
     s: &[u8],
-    line: u64,
     memory: &mut [u8],
     buffer: &mut [u8],
     list: &mut [u16],
@@ -281,16 +248,13 @@ pub fn call(
     heads: &mut GroupHeads,
     members: &mut GroupMembers,
     order: &mut FlowOrder,
-) -> Done {
-    let name = text::word(s, 0);
-    if check::same(name, b"work") {
-        return work(d, s, line, memory, buffer, flows, heads, members, order);
+) -> Result<Device, Fault> {
+    match text::word(s, 0) {
+        b"work" => work(out, d, s, memory, buffer, flows, heads, members, order),
+        b"frame" => {
+            frame(out, d, s, buffer, list, flows, heads, members, order)?;
+            Ok(d)
+        }
+        _ => without_tables(out, d, s, buffer),
     }
-    if check::same(name, b"frame") {
-        return Done {
-            device: d,
-            written: frame(d, s, line, buffer, list, flows, heads, members, order),
-        };
-    }
-    without_tables(d, s, line, buffer)
 }
