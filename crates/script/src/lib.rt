@@ -4,56 +4,60 @@
 
 #![tactic(auto)]
 
-use libc::{STDERR_FILENO, STDIN_FILENO};
-use lines::{Reader, print, told};
+use either::Either;
+use lines::told::Gathered;
+use lines::{Fault, Reader, print, told};
 use rules::{
     Device, FLOW_WORDS, FlowOrder, FlowRows, GroupHeads, GroupMembers, HEAD_WORDS, MAX_FLOWS,
     MAX_GROUPS, MAX_MEMBERS,
 };
+use std::fs::File;
+use std::io;
+use std::io::{Read, Write};
+use std::rt::Files;
 
-// The guest memory's size, the device once there is one, and whether all that was printed is written.
+// The guest memory's size, and the device once there is one.
 #[derive(Clone, Copy)]
 struct Console {
     memory: usize,
     made: bool,
     device: Device,
-    written: bool,
 }
 
-// A script under way, and whether it goes on.
+// A script under way, whether it goes on, and why what a line printed could not be written.
 #[derive(Clone, Copy)]
 struct Script {
     console: Console,
     reader: Reader,
     more: bool,
+    unwritten: Option<io::Error>,
 }
 
 // fresh PORTS SWITCH_ID. A refused one leaves the device that was there.
-fn run_fresh(
+fn run_fresh<W: Write>(
+    out: &mut W,
     p: Console,
     s: &[u8],
-    line: u64,
     flows: &mut FlowRows,
     heads: &mut GroupHeads,
     members: &mut GroupMembers,
     order: &mut FlowOrder,
-) -> Console {
+) -> Result<Console, Fault> {
     let n = text::arguments(s, 3);
     if !n.good {
-        print::complain(line, b"expected fresh PORTS SWITCH_ID");
-        return p;
+        return Err(Fault::Line("expected fresh PORTS SWITCH_ID"));
     }
     let r = device::fresh(n.a, n.b, flows, heads, members, order);
     let answer = r.answer;
-    let mut q = p;
-    q.written = told::answer(answers::number(answer));
+    told::answer(out, answers::number(answer))?;
     if answers::number(answer) != 0 {
-        return q;
+        return Ok(p);
     }
     let d = r.device;
+    let mut q = p;
     q.device = d;
     q.made = true;
-    q
+    Ok(q)
 }
 
 // Empty lines and those that begin with #.
@@ -65,19 +69,19 @@ fn passed_over(s: &[u8]) -> bool {
 }
 
 // Why a line that would call a device is none while there is no device.
-fn not_made(s: &[u8], line: u64) {
+fn not_made(s: &[u8]) -> Fault {
     if calls::is_call(text::word(s, 0)) {
-        print::complain(line, b"no device");
+        Fault::Line("no device")
     } else {
-        print::complain(line, b"no call");
+        Fault::Line("no call")
     }
 }
 
 // A line that calls the device that there is.
-fn run_call(
+fn run_call<W: Write>(
+    out: &mut W,
     p: Console,
     s: &[u8],
-    line: u64,
     memory: &mut [u8],
     buffer: &mut [u8],
     list: &mut [u16],
@@ -85,17 +89,16 @@ fn run_call(
     heads: &mut GroupHeads,
     members: &mut GroupMembers,
     order: &mut FlowOrder,
-) -> Console {
+) -> Result<Console, Fault> {
     if !p.made {
-        not_made(s, line);
-        return p;
+        return Err(not_made(s));
     }
     let d = p.device;
     let size = numbers::min(p.memory, memory.len());
-    let done = calls::call(
+    let after = calls::call(
+        out,
         d,
         s,
-        line,
         &mut memory[0..size],
         buffer,
         list,
@@ -103,19 +106,17 @@ fn run_call(
         heads,
         members,
         order,
-    );
-    let after = done.device;
+    )?;
     let mut q = p;
     q.device = after;
-    q.written = done.written;
-    q
+    Ok(q)
 }
 
 // One line.
-fn run_line(
+fn run_line<W: Write>(
+    out: &mut W,
     p: Console,
     s: &[u8],
-    line: u64,
     memory: &mut [u8],
     buffer: &mut [u8],
     list: &mut [u16],
@@ -123,24 +124,23 @@ fn run_line(
     heads: &mut GroupHeads,
     members: &mut GroupMembers,
     order: &mut FlowOrder,
-) -> Console {
-    let g = guest::call(p.memory, s, line, memory);
-    if g.taken {
+) -> Result<Console, Fault> {
+    if let Some(size) = guest::call(out, p.memory, s, memory)? {
         let mut q = p;
-        q.memory = g.size;
-        q.written = g.written;
-        return q;
+        q.memory = size;
+        return Ok(q);
     }
-    if check::same(text::word(s, 0), b"fresh") {
-        return run_fresh(p, s, line, flows, heads, members, order);
+    match text::word(s, 0) {
+        b"fresh" => run_fresh(out, p, s, flows, heads, members, order),
+        _ => run_call(
+            out, p, s, memory, buffer, list, flows, heads, members, order,
+        ),
     }
-    run_call(
-        p, s, line, memory, buffer, list, flows, heads, members, order,
-    )
 }
 
 // The line that a reader has taken. One that a failed read broke off is not run.
-fn run_taken(
+fn run_taken<W: Write>(
+    out: &mut W,
     p: Console,
     r: Reader,
     line: &[u8],
@@ -151,27 +151,53 @@ fn run_taken(
     heads: &mut GroupHeads,
     members: &mut GroupMembers,
     order: &mut FlowOrder,
-) -> Console {
-    if r.fails {
-        return p;
+) -> Result<Console, Fault> {
+    if r.failure.is_some() {
+        return Ok(p);
     }
     if r.long {
-        print::complain(r.lines, b"longer than 65535 bytes");
-        return p;
+        return Err(Fault::Line("longer than 65535 bytes"));
     }
     let used = numbers::min(r.used, line.len());
     let s = &line[0..used];
     if passed_over(s) {
-        return p;
+        return Ok(p);
     }
     run_line(
-        p, s, r.lines, memory, buffer, list, flows, heads, members, order,
+        out, p, s, memory, buffer, list, flows, heads, members, order,
     )
 }
 
+// The script after a line. One that is reported leaves the console.
+fn after_line<E: Eprint>(
+    rt: &E,
+    p: Console,
+    reader: Reader,
+    done: Result<Console, Fault>,
+) -> Script {
+    let mut t = Script {
+        console: p,
+        reader: reader,
+        more: reader.more,
+        unwritten: None,
+    };
+    match done {
+        Ok(console) => t.console = console,
+        Err(Fault::Line(why)) => print::complain(rt, reader.lines, why),
+        Err(Fault::Output(e)) => {
+            t.more = false;
+            t.unwritten = Some(e);
+        }
+    }
+    t
+}
+
 // One line taken and run.
-fn turn(
+fn turn<E: Eprint, R: Read, W: Write>(
+    rt: &E,
     t: Script,
+    from: &mut R,
+    out: &mut W,
     input: &mut [u8; 65536],
     line: &mut [u8; 65535],
     memory: &mut [u8; 1048576],
@@ -183,20 +209,15 @@ fn turn(
     order: &mut FlowOrder,
 ) -> Script {
     let before = t.reader;
-    let reader = lines::take(before, input, line);
+    let reader = lines::take(before, from, input, line);
     let p = t.console;
-    let console = run_taken(
-        p, reader, line, memory, buffer, list, flows, heads, members, order,
+    let done = run_taken(
+        out, p, reader, line, memory, buffer, list, flows, heads, members, order,
     );
-    Script {
-        console: console,
-        reader: reader,
-        more: reader.more & console.written,
-    }
+    after_line(rt, p, reader, done)
 }
 
 fn begin(
-    fd: i32,
     flows: &mut FlowRows,
     heads: &mut GroupHeads,
     members: &mut GroupMembers,
@@ -204,58 +225,94 @@ fn begin(
 ) -> Script {
     let none = device::fresh(0, 0, flows, heads, members, order);
     let d = none.device;
-    let reader = lines::start(fd);
+    let reader = lines::start();
     Script {
         console: Console {
             memory: 0,
             made: false,
             device: d,
-            written: true,
         },
         reader: reader,
         more: true,
+        unwritten: None,
+    }
+}
+
+// What an error says, without its number.
+fn reason<'a>(e: &io::Error, text: &'a mut [u8; 256]) -> &'a str {
+    let mut rest = &mut text[..];
+    let _ = write!(rest, "{e}");
+    let used = 256usize.saturating_sub(rest.len());
+    let whole = str::from_utf8(&text[..used]).unwrap_or("");
+    match whole.split_once(" (os error ") {
+        Some((said, _)) => said,
+        None => whole,
     }
 }
 
 // Names what could not be opened, read or written, on standard error, and says why.
-pub fn fail(what: &[u8]) {
-    io::write_all(STDERR_FILENO, b"console: ");
-    os::fail(what);
+pub fn fail<E: Eprint>(rt: &E, what: &str, e: &io::Error) {
+    let mut text = [0u8; 256];
+    let why = reason(e, &mut text);
+    let _ = eprintln!(rt; "console: {what}: {why}");
 }
 
 // Reports a write that failed, or a read.
-fn finish(t: Script, name: &[u8]) {
-    let p = t.console;
+fn finish<E: Eprint>(rt: &E, t: Script, name: &str) {
     let r = t.reader;
-    if !p.written {
-        fail(b"standard output");
-    } else if r.fails {
-        fail(name);
+    if let Some(e) = t.unwritten {
+        fail(rt, "standard output", &e);
+    } else if let Some(e) = r.failure {
+        fail(rt, name, &e);
     }
 }
 
-// Runs the script on standard input.
-pub fn run() {
-    run_from(STDIN_FILENO, b"standard input");
+// Standard input or a file, each as the one type of reader that the loop is compiled for.
+fn run_input<T: Files + Input + Print + Eprint>(
+    rt: &T,
+    from: Either<T::Reader, T::File>,
+    name: &str,
+) {
+    let mut input = from;
+    let mut out = Gathered::nothing(io::writer(rt));
+    run_from(rt, &mut input, name, &mut out);
 }
 
-// Runs the script of an input, by its descriptor and its name, to its end or to a read or a write that fails. A proved loop ends, and
-// nothing says that the input does: the turns count down from a number that no run uses up.
-pub fn run_from(fd: i32, name: &[u8]) {
+// Runs the script on standard input.
+pub fn run<T: Files + Input + Print + Eprint>(rt: &T) {
+    run_input(rt, Either::Left(rt.reader()), "standard input");
+}
+
+// Runs the script of a file.
+pub fn run_path<T: Files + Input + Print + Eprint>(rt: &T, path: &str) {
+    match File::open(rt, path) {
+        Ok(file) => run_input(rt, Either::Right(file), path),
+        Err(e) => fail(rt, path, &e),
+    }
+}
+
+// Runs the script of an input, by its reader and its name, to its end or to a read or a write that fails. A proved loop ends, and nothing
+// says that the input does: no run comes to the end of its turns.
+pub fn run_from<E: Eprint, R: Read, W: Write>(rt: &E, from: &mut R, name: &str, out: &mut W) {
     let mut flows = [[0u32; FLOW_WORDS]; MAX_FLOWS];
     let mut heads = [[0u32; HEAD_WORDS]; MAX_GROUPS];
     let mut members = [[0u16; MAX_MEMBERS]; MAX_GROUPS];
     let mut order = [0u8; MAX_FLOWS];
-    let mut t = begin(fd, &mut flows, &mut heads, &mut members, &mut order);
+    let mut t = begin(&mut flows, &mut heads, &mut members, &mut order);
     let mut input = [0u8; 65536];
     let mut line = [0u8; 65535];
     let mut memory = [0u8; 1048576];
     let mut buffer = [0u8; 65536];
     let mut list = [0u16; 1024];
-    let mut turns = u64::MAX;
-    while turns > 0 && t.more {
+    for _ in 0..u64::MAX {
+        if !t.more {
+            break;
+        }
         t = turn(
+            rt,
             t,
+            from,
+            out,
             &mut input,
             &mut line,
             &mut memory,
@@ -266,7 +323,6 @@ pub fn run_from(fd: i32, name: &[u8]) {
             &mut members,
             &mut order,
         );
-        turns -= 1;
     }
-    finish(t, name);
+    finish(rt, t, name);
 }
