@@ -3,6 +3,6 @@
 
 #![tactic(auto)]
 
-fn main() {
-    script::run();
+fn main(rt: HostRuntime) {
+    script::run(&rt);
 }

@@ -4,6 +4,6 @@
 
 #![tactic(auto)]
 
-fn main() {
-    script::run();
+fn main(rt: HostRuntime) {
+    script::run(&rt);
 }
