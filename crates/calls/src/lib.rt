@@ -1,5 +1,5 @@
 // The calls of a device, each from its line: its numbers are handed over as they are, and its outcome is printed. A line that is no call is
-// a fault. A fault gives no device: the one before the line is the caller's own.
+// a fault. With a fault no device is given back, and the caller keeps the one before the line.
 
 #![tactic(auto)]
 

@@ -1,16 +1,16 @@
-// Parts of a line, each written to where it is told, and complaints on standard error.
+// Parts of a line, to a writer, and complaints, on standard error.
 use crate::told;
 use std::io;
 use std::io::Write;
 
-// A complaint that cannot be written is told nowhere.
+// A complaint that cannot be written is not told anywhere.
 pub fn complain<E: Eprint>(rt: &E, line: u64, why: &str) {
     let _ = eprintln!(rt; "console: line {line}: {why}");
 }
 
 // A space, and a number.
 pub fn value<W: Write>(out: &mut W, v: u64) -> io::Result<()> {
-    write!(out, " {v}")
+    told::next(out, v)
 }
 
 pub fn end<W: Write>(out: &mut W) -> io::Result<()> {

@@ -1,5 +1,5 @@
-// Outcomes, a line each, written to where they are told and flushed at their end; `Gathered` writes a line at once where its buffer holds
-// it. Each function says whether all of its line is written; behind a write that failed nothing more of a line is.
+// Outcomes, a line each, to a writer that is flushed at the line's end: `Gathered` writes a line at once where its buffer holds it. Each
+// function says whether all of its line is written; behind a write that failed nothing more of a line is.
 use std::io;
 use std::io::Write;
 
