@@ -1,4 +1,2 @@
-pub mod Moved
-pub mod Filling
 pub mod Turning
 pub mod Draining

@@ -1,47 +1,64 @@
 // Files by name, what cannot be read on standard error, and what a replay prints.
-use libc::{STDIN_FILENO, STDOUT_FILENO};
+use either::{Either, Left, Right};
 use replaying::replay::Replayed;
 use rules::{FlowRows, GroupHeads, GroupMembers};
-
-pub fn say(fd: i32, text: &[u8]) -> bool {
-    io::write_all(fd, text)
-}
+use std::fs::File;
+use std::io::{Input, Write};
+use std::rt::Files;
+use std::{io, str};
 
 // The name that stands for standard input.
-fn is_standard(path: &[u8]) -> bool {
-    check::same(path, b"-")
+fn is_standard(path: &str) -> bool {
+    path == "-"
 }
 
-// A descriptor, or a negative number.
-pub fn open(path: &[u8]) -> i32 {
+// Standard input, or a file, which is closed where it is let go. Both are one type, so that what reads them is compiled once and its arrays
+// stand on the stack once.
+pub fn open<T: Files + Input>(rt: &T, path: &str) -> io::Result<Either<T::Reader, T::File>> {
     if is_standard(path) {
-        STDIN_FILENO
-    } else {
-        os::open_read(path)
+        return Ok(Left(rt.reader()));
+    }
+    let file = File::open(rt, path)?;
+    Ok(Right(file))
+}
+
+// What an error says, without the number that stands behind the system's words.
+fn reason<'a>(e: &io::Error, text: &'a mut [u8; 256]) -> &'a str {
+    let mut rest = &mut text[..];
+    let _ = write!(rest, "{e}");
+    let used = 256usize.saturating_sub(rest.len());
+    let whole = str::from_utf8(&text[..used]).unwrap_or("");
+    match whole.split_once(" (os error ") {
+        Some((said, _)) => said,
+        None => whole,
     }
 }
 
-// Standard input is left open.
-pub fn close(fd: i32, path: &[u8]) {
-    if !is_standard(path) {
-        libc::close(fd);
-    }
+// A line on standard error: what failed, and why.
+pub fn tell<E: Eprint>(rt: &E, what: &str, e: &io::Error) {
+    let mut text = [0u8; 256];
+    let why = reason(e, &mut text);
+    let _ = eprintln!(rt; "{what}: {why}");
 }
 
 // Names an input that cannot be opened or read, on standard error, and says why.
-pub fn fail(path: &[u8]) {
+pub fn fail<E: Eprint>(rt: &E, path: &str, e: &io::Error) {
     if is_standard(path) {
-        os::fail(b"standard input");
+        tell(rt, "standard input", e);
     } else {
-        os::fail(path);
+        tell(rt, path, e);
     }
 }
 
 // The five lines of a replay, or the line that refuses.
-pub fn print_report(q: Replayed, flows: &FlowRows, heads: &GroupHeads, members: &GroupMembers) {
+pub fn print_report<W: Write>(
+    out: &mut W,
+    q: Replayed,
+    flows: &FlowRows,
+    heads: &GroupHeads,
+    members: &GroupMembers,
+) -> io::Result<()> {
     let mut text = [0u8; 160];
     let n = report::report(&mut text, q, flows, heads, members);
-    if !say(STDOUT_FILENO, &text[..n]) {
-        os::fail(b"standard output");
-    }
+    out.write_all(&text[..n])
 }

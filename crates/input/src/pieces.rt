@@ -1,24 +1,36 @@
 // A buffer that is filled behind the bytes that are kept at its front.
-ghost use Rattle.std.specs.Prelude.{◌≤◌, length};
-ghost use Rattle.input.specs.Input.{Fills, Moves};
+ghost use Rattle.std.specs.Prelude.{◌≤◌, ◌≡◌, drop, length};
+ghost use Rattle.std.specs.Io.KnownBytes.{ReadConsumes};
+ghost use Rattle.input.specs.Input.{amount, Fills, Moves};
+
+use std::io;
+use std::io::Read;
 
 // What a read answered, and where the bytes end that are there now.
 #[derive(Clone, Copy)]
 pub struct Filled {
-    pub got: isize,
+    pub got: io::Result<usize>,
     pub end: usize,
 }
 
-// Reads once. The bytes that are kept stay, and those that came stand behind them.
-pub fn fill(fd: i32, buffer: &mut [u8], kept: usize) -> Filled
-    requires { kept ≤ length buffer.old }
-    ensures { Fills result kept buffer.old buffer.new }
+// How many bytes a read brought: none where it failed.
+pub fn came(got: io::Result<usize>) -> usize
+    ensures { result ≡ amount got }
 {
-    let got = libc::read(fd, &mut buffer[kept..]);
-    let n = io::count(got, &buffer[kept..]);
+    got.unwrap_or(0)
+}
+
+// Reads once. The bytes that are kept stay, and those that came stand behind them: of a reader whose bytes are known these are the next
+// ones, there are none only at its end, and a read that fails takes none.
+pub fn fill<R: Read>(from: &mut R, buffer: &mut [u8], kept: usize) -> Filled
+    requires { kept ≤ length buffer.old }
+    ensures fills { Fills result kept buffer.old buffer.new }
+    ensures known { ReadConsumes (R.remaining from.old) (R.remaining from.new) result.got (drop kept buffer.new) }
+{
+    let got = from.read(&mut buffer[kept..]);
     Filled {
         got: got,
-        end: kept + n,
+        end: kept + came(got),
     }
 }
 
@@ -27,9 +39,5 @@ pub fn shift(buffer: &mut [u8], from: usize, end: usize)
     requires { (from ≤ end) × (end ≤ length buffer.old) }
     ensures { Moves from end buffer.old buffer.new }
 {
-    let mut i: usize = 0;
-    while i < end - from {
-        buffer[i] = buffer[from + i];
-        i += 1;
-    }
+    buffer.copy_within(from..end, 0);
 }
