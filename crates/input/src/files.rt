@@ -2,10 +2,33 @@
 use either::{Either, Left, Right};
 use replaying::replay::Replayed;
 use rules::{FlowRows, GroupHeads, GroupMembers};
+use std::env::{Env, FillError};
 use std::fs::File;
-use std::io::{Input, Write};
+use std::io;
+use std::io::{ErrorKind, Write};
 use std::rt::Files;
-use std::{io, str};
+
+// The system's numbers of two errors: what is missing, and a name that is too long.
+const INVALID_ARGUMENT: i32 = 22;
+const NAME_TOO_LONG: i32 = 36;
+
+// A word of the program's call as a path, or why it is none.
+pub fn argument<'a, T: Env>(rt: &T, i: usize, word: &'a mut [u8; 4096]) -> io::Result<&'a str> {
+    match rt.arg(i, word) {
+        Ok(n) => match str::from_utf8(&word[..n]) {
+            Ok(path) => Ok(path),
+            Err(_) => Err(io::Error::new(ErrorKind::InvalidInput, "not text in UTF-8")),
+        },
+        Err(FillError::TooLong) => Err(io::Error::from_raw_os_error(NAME_TOO_LONG)),
+        Err(FillError::NotPresent) => Err(io::Error::from_raw_os_error(INVALID_ARGUMENT)),
+    }
+}
+
+// Whether the program was called with so many words.
+pub fn has_argument<T: Env>(rt: &T, i: usize) -> bool {
+    let mut word = [0u8; 1];
+    !matches!(rt.arg(i, &mut word), Err(FillError::NotPresent))
+}
 
 // The name that stands for standard input.
 fn is_standard(path: &str) -> bool {

@@ -7,52 +7,59 @@
 ghost use Rattle.std.specs.Prelude.{◌≤◌, length};
 ghost use Rattle.replaying.specs.Replaying.{longest};
 
+use input::reading::Progress;
 use input::{files, pieces, reading};
-use libc::STDOUT_FILENO;
 use replaying::replay;
 use replaying::replay::Replayed;
 use rules::{
     FLOW_WORDS, FlowRows, GroupHeads, GroupMembers, HEAD_WORDS, MAX_FLOWS, MAX_GROUPS, MAX_MEMBERS,
 };
+use std::fs;
+use std::fs::File;
+use std::io;
+use std::io::{IsTerminal, Read, Write};
+use std::rt::Files;
 
-fn say(text: &[u8]) -> bool {
-    files::say(STDOUT_FILENO, text)
-}
+// What a file is written to while it grows, one after another.
+const GROWN: &str = "grown";
 
 // Whether the file gives the same text through a buffer that holds one record.
-fn agrees_in_one_record(path: &[u8], whole: &[u8]) -> bool {
+fn agrees_in_one_record<T: Files + Input + Eprint>(
+    to: &Progress<'_, T>,
+    path: &str,
+    whole: &[u8],
+) -> io::Result<bool> {
     let mut flows = [[0u32; FLOW_WORDS]; MAX_FLOWS];
     let mut heads = [[0u32; HEAD_WORDS]; MAX_GROUPS];
     let mut members = [[0u16; MAX_MEMBERS]; MAX_GROUPS];
     let mut buffer = [0u8; replay::LONGEST];
-    let fd = files::open(path);
+    let mut from = files::open(to.rt, path)?;
     let d = reading::drain(
-        b"input_run",
-        fd,
+        to,
+        &mut from,
         &mut buffer,
         &mut flows,
         &mut heads,
         &mut members,
     );
-    files::close(fd, path);
     let q = d.result;
     let mut text = [0u8; 160];
     let n = report::report(&mut text, q, &flows, &heads, &members);
-    !d.fails & check::same(&text[..n], whole)
+    Ok(d.failure.is_none() & (&text[..n] == whole))
 }
 
 // One piece of a file, written to the end of another.
-fn append(from: i32, to: i32, piece: &mut [u8]) {
-    let got = libc::read(from, piece);
-    let n = io::count(got, piece);
-    io::write_all(to, &piece[..n]);
+fn append<R: Read, W: Write>(from: &mut R, to: &mut W, piece: &mut [u8]) {
+    if let Ok(n) = from.read(piece) {
+        let _ = to.write_all(&piece[..n]);
+    }
 }
 
 // Replays a file while it grows: before each read one piece of another file is written to its end.
-fn grown(
-    from: i32,
-    to: i32,
-    fd: i32,
+fn grown<R: Read, W: Write, G: Read>(
+    from: &mut R,
+    to: &mut W,
+    grown: &mut G,
     piece: &mut [u8],
     buffer: &mut [u8],
     flows: &mut FlowRows,
@@ -66,7 +73,7 @@ fn grown(
     let mut turns: u64 = 0xFFFF_FFFF;
     while 0 < turns {
         append(from, to, piece);
-        let f = pieces::fill(fd, buffer, kept);
+        let f = pieces::fill(grown, buffer, kept);
         let t = reading::turn(f, buffer, r, flows, heads, members);
         r = t.replay;
         kept = t.kept;
@@ -76,21 +83,23 @@ fn grown(
 }
 
 // Whether the file gives the same text where it comes in pieces of so many bytes.
-fn agrees_in_pieces(path: &[u8], piece: &mut [u8], whole: &[u8]) -> bool {
-    let mut name = [
-        b'g', b'r', b'o', b'w', b'n', b'.', b'X', b'X', b'X', b'X', b'X', b'X',
-    ];
-    let from = os::open_read(path);
-    let to = os::create_temp(&mut name);
-    let fd = os::open_read(&name);
+fn agrees_in_pieces<T: Files>(
+    rt: &T,
+    path: &str,
+    piece: &mut [u8],
+    whole: &[u8],
+) -> io::Result<bool> {
+    let mut from = File::open(rt, path)?;
+    let mut to = File::create_new(rt, GROWN)?;
+    let mut file = File::open(rt, GROWN)?;
     let mut flows = [[0u32; FLOW_WORDS]; MAX_FLOWS];
     let mut heads = [[0u32; HEAD_WORDS]; MAX_GROUPS];
     let mut members = [[0u16; MAX_MEMBERS]; MAX_GROUPS];
-    let mut buffer = io::large_buffer();
+    let mut buffer = [0u8; 65536];
     let q = grown(
-        from,
-        to,
-        fd,
+        &mut from,
+        &mut to,
+        &mut file,
         piece,
         &mut buffer,
         &mut flows,
@@ -99,56 +108,67 @@ fn agrees_in_pieces(path: &[u8], piece: &mut [u8], whole: &[u8]) -> bool {
     );
     let mut text = [0u8; 160];
     let n = report::report(&mut text, q, &flows, &heads, &members);
-    os::unlink(&name);
-    libc::close(fd);
-    libc::close(to);
-    libc::close(from);
-    check::same(&text[..n], whole)
+    fs::remove_file(rt, GROWN)?;
+    Ok(&text[..n] == whole)
 }
 
-fn compare(path: &[u8], whole: &[u8]) {
-    if check::same(path, b"-") {
-        return;
+fn compare<T: Files + Input + Eprint, W: Write>(
+    to: &Progress<'_, T>,
+    out: &mut W,
+    path: &str,
+    whole: &[u8],
+) -> io::Result<()> {
+    if path == "-" {
+        return Ok(());
     }
-    if !agrees_in_one_record(path, whole) {
-        say(b"through a small buffer: something else\n");
+    if !agrees_in_one_record(to, path, whole)? {
+        out.write_all(b"through a small buffer: something else\n")?;
     }
     let mut few = [0u8; 7];
     let mut some = [0u8; 1000];
-    if !agrees_in_pieces(path, &mut few, whole) | !agrees_in_pieces(path, &mut some, whole) {
-        say(b"in pieces: something else\n");
+    let in_few = agrees_in_pieces(to.rt, path, &mut few, whole)?;
+    let in_some = agrees_in_pieces(to.rt, path, &mut some, whole)?;
+    if !in_few | !in_some {
+        out.write_all(b"in pieces: something else\n")?;
     }
+    Ok(())
 }
 
-fn print(path: &[u8]) {
+fn print<T: Files + Input + Eprint, W: Write>(
+    to: &Progress<'_, T>,
+    out: &mut W,
+    path: &str,
+) -> io::Result<()> {
     let mut flows = [[0u32; FLOW_WORDS]; MAX_FLOWS];
     let mut heads = [[0u32; HEAD_WORDS]; MAX_GROUPS];
     let mut members = [[0u16; MAX_MEMBERS]; MAX_GROUPS];
-    let d = reading::replay_file(b"input_run", path, &mut flows, &mut heads, &mut members);
-    say(path);
-    if d.fails {
-        say(b"\ncannot be read\n");
-        return;
+    let d = reading::replay_file(to, path, &mut flows, &mut heads, &mut members);
+    out.write_all(path.as_bytes())?;
+    if d.failure.is_some() {
+        return out.write_all(b"\ncannot be read\n");
     }
-    say(b"\n");
+    out.write_all(b"\n")?;
     let q = d.result;
     let mut text = [0u8; 160];
     let n = report::report(&mut text, q, &flows, &heads, &members);
-    say(&text[..n]);
-    compare(path, &text[..n]);
+    out.write_all(&text[..n])?;
+    compare(to, out, path, &text[..n])
 }
 
-fn print_argument(i: usize) {
-    let mut path = io::buffer();
-    let n = os::arg(i, &mut path);
-    print(&path[..n]);
-}
-
-fn main() {
-    let count = os::arg_count();
-    let mut i: usize = 1;
-    while i < count {
-        print_argument(i);
-        i += 1;
+fn main(rt: HostRuntime) -> io::Result<()> {
+    let to = Progress {
+        rt: &rt,
+        program: "input_run",
+        shows: rt.stderr().is_terminal(),
+    };
+    let mut out = rt.stdout();
+    let mut word = [0u8; 4096];
+    for i in 1..usize::MAX {
+        if !files::has_argument(&rt, i) {
+            break;
+        }
+        let path = files::argument(&rt, i, &mut word)?;
+        print(&to, &mut out, path)?;
     }
+    Ok(())
 }

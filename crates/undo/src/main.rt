@@ -5,50 +5,35 @@
 mod reading;
 
 use input::files;
-use libc::{STDERR_FILENO, STDOUT_FILENO};
 use rules::{FLOW_WORDS, HEAD_WORDS, MAX_FLOWS, MAX_GROUPS, MAX_MEMBERS};
+use std::env::Env;
+use std::fs::{File, OpenFile};
+use std::io;
+use std::io::{ErrorKind, Write};
+use std::rt::Files;
 use text::Numeral;
 use undoing::Undone;
 
 // More than the longest list has: 768 payloads, 203,264 bytes.
 const ROOM: usize = 204800;
 
-fn print_help() -> bool {
-    files::say(STDOUT_FILENO, b"undo N FILE OUT\n")
-        & files::say(
-            STDOUT_FILENO,
-            b"Writes to OUT the list of payloads which, carried out after the whole journal FILE (standard input where it is -),\n",
-        )
-        & files::say(
-            STDOUT_FILENO,
-            b"give back the tables that stood after its first N lines; N is decimal or, after 0x, hexadecimal, and has 64 bits.\n",
-        )
-        & files::say(
-            STDOUT_FILENO,
-            b"Each payload stands behind its length of 2 bytes. Prints how many payloads and bytes the list has;\n",
-        )
-        & files::say(
-            STDOUT_FILENO,
-            b"or, as 'refused 15' or 'refused 14 line 2', the first fault and its line (0: the header), and OUT is left as it was:\n",
-        )
-        & files::say(
-            STDOUT_FILENO,
-            b"10 cut short, 11 mark, 12 version, 13 port count, 14 the line disagrees with its replay, 15 fewer than N lines.\n",
-        )
-        & files::say(
-            STDOUT_FILENO,
-            b"./run undo ends with 0 where it is done, 1 where a refusal is printed, 2 where the work could not be done;\n",
-        )
-        & files::say(STDOUT_FILENO, b"the program alone always ends with 0.\n")
-}
+const HELP: &str = "undo N FILE OUT
+Writes to OUT the list of payloads which, carried out after the whole journal FILE (standard input where it is -),
+give back the tables that stood after its first N lines; N is decimal or, after 0x, hexadecimal, and has 64 bits.
+Each payload stands behind its length of 2 bytes. Prints how many payloads and bytes the list has;
+or, as 'refused 15' or 'refused 14 line 2', the first fault and its line (0: the header), and OUT is left as it was:
+10 cut short, 11 mark, 12 version, 13 port count, 14 the line disagrees with its replay, 15 fewer than N lines.
+./run undo ends with 0 where it is done, 1 where a refusal is printed, 2 where the work could not be done;
+the program alone always ends with 0.
+";
 
-fn help() {
-    if !print_help() {
-        os::fail(b"standard output");
+fn help<T: Print + Eprint>(rt: &T) {
+    if let Err(e) = print!(rt; "{HELP}") {
+        files::tell(rt, "standard output", &e);
     }
 }
 
-fn print(u: Undone) {
+fn print<T: Print + Eprint>(rt: &T, u: Undone) {
     let answer = u.answer;
     let mut text = [0u8; 160];
     let n = report::undone(
@@ -58,44 +43,56 @@ fn print(u: Undone) {
         u.count,
         u.size as u64,
     );
-    if !files::say(STDOUT_FILENO, &text[..n]) {
-        os::fail(b"standard output");
+    if let Err(e) = Print::write_all(rt, &text[..n]) {
+        files::tell(rt, "standard output", &e);
+    }
+}
+
+// What cannot be brought to a disk, as a pipe, a terminal or a device, has the bytes once they are written.
+fn needs_no_disk(e: &io::Error) -> bool {
+    matches!(e.kind(), ErrorKind::InvalidInput | ErrorKind::Unsupported)
+}
+
+// Writes a list to OUT. A file that lies elsewhere may take the bytes and fail afterwards: it is asked for that before it is closed.
+fn write_all<T: Files>(rt: &T, path: &str, list: &[u8]) -> io::Result<()> {
+    let mut file = File::create(rt, path)?;
+    file.write_all(list)?;
+    match file.sync_all() {
+        Ok(()) => Ok(()),
+        Err(e) => {
+            if needs_no_disk(&e) {
+                Ok(())
+            } else {
+                Err(e)
+            }
+        }
     }
 }
 
 // Whether all of a list is in OUT; where it is not, OUT is named on standard error, and what is in it is not told.
-fn write(path: &[u8], list: &[u8]) -> bool {
-    let fd = os::open_overwrite(path);
-    if fd < 0 {
-        os::fail(path);
+fn write<T: Files + Eprint>(rt: &T, path: &str, list: &[u8]) -> bool {
+    if let Err(e) = write_all(rt, path, list) {
+        files::tell(rt, path, &e);
         return false;
     }
-    let whole = io::write_all(fd, list);
-    if !whole {
-        os::fail(path);
-    }
-    let closed = libc::close(fd) == 0;
-    if whole & !closed {
-        os::fail(path);
-    }
-    whole & closed
+    true
 }
 
 // A refused run leaves OUT alone. What is written is printed only where it is all there.
-fn finish(u: Undone, room: &[u8], out: &[u8]) {
+fn finish<T: Files + Print + Eprint>(rt: &T, u: Undone, room: &[u8], out: &str) {
     let answer = u.answer;
     if answers::number(answer) != 0 {
-        print(u);
+        print(rt, u);
         return;
     }
     let size = numbers::min(u.size, room.len());
-    if write(out, &room[..size]) {
-        print(u);
+    if write(rt, out, &room[..size]) {
+        print(rt, u);
     }
 }
 
 // A journal that cannot be read prints nothing on standard output and leaves OUT alone.
-fn undo(n: u64, path: &[u8], out: &[u8]) {
+fn undo<T: Files + Input + Print + Eprint>(rt: &T, n: u64, path: &str, out: &str) {
     let mut flows = [[0u32; FLOW_WORDS]; MAX_FLOWS];
     let mut heads = [[0u32; HEAD_WORDS]; MAX_GROUPS];
     let mut members = [[0u16; MAX_MEMBERS]; MAX_GROUPS];
@@ -103,6 +100,7 @@ fn undo(n: u64, path: &[u8], out: &[u8]) {
     let mut early_heads = [[0u32; HEAD_WORDS]; MAX_GROUPS];
     let mut early_members = [[0u16; MAX_MEMBERS]; MAX_GROUPS];
     let d = reading::read_file(
+        rt,
         path,
         n,
         &mut flows,
@@ -112,7 +110,7 @@ fn undo(n: u64, path: &[u8], out: &[u8]) {
         &mut early_heads,
         &mut early_members,
     );
-    if d.fails {
+    if d.failure.is_some() {
         return;
     }
     let ended = d.ended;
@@ -128,49 +126,45 @@ fn undo(n: u64, path: &[u8], out: &[u8]) {
         &early_heads,
         &early_members,
     );
-    finish(u, &room, out);
+    finish(rt, u, &room, out);
 }
 
-fn undo_arguments(n: u64) {
-    let mut path = io::buffer();
-    let k = os::arg(2, &mut path);
-    if os::errno() != 0 {
-        os::fail(b"undo: FILE");
-        return;
+fn undo_arguments<T: Env + Files + Input + Print + Eprint>(rt: &T, n: u64) {
+    let mut path = [0u8; 4096];
+    let mut out = [0u8; 4096];
+    match files::argument(rt, 2, &mut path) {
+        Ok(path) => match files::argument(rt, 3, &mut out) {
+            Ok(out) => undo(rt, n, path, out),
+            Err(e) => files::tell(rt, "undo: OUT", &e),
+        },
+        Err(e) => files::tell(rt, "undo: FILE", &e),
     }
-    let mut out = io::buffer();
-    let j = os::arg(3, &mut out);
-    if os::errno() != 0 {
-        os::fail(b"undo: OUT");
-        return;
-    }
-    undo(n, &path[..k], &out[..j]);
 }
 
-fn undo_number(word: &[u8]) {
+fn undo_number<T: Env + Files + Input + Print + Eprint>(rt: &T, word: &[u8]) {
     let Numeral::Number(n) = text::number(word) else {
-        files::say(STDERR_FILENO, b"undo: N is no number of 64 bits\n");
+        let _ = eprintln!(rt; "undo: N is no number of 64 bits");
         return;
     };
-    undo_arguments(n);
+    undo_arguments(rt, n);
 }
 
-fn run(count: usize, first: &[u8]) {
-    if check::same(first, b"--help") {
-        help();
-    } else if count == 4 {
-        undo_number(first);
+// A first word that is longer than a path can be is no number.
+fn run<T: Env + Files + Input + Print + Eprint>(rt: &T) {
+    let mut word = [0u8; 4096];
+    let first = match rt.arg(1, &mut word) {
+        Ok(n) => &word[..n],
+        Err(_) => &word[..0],
+    };
+    if first == b"--help".as_slice() {
+        help(rt);
+    } else if files::has_argument(rt, 3) & !files::has_argument(rt, 4) {
+        undo_number(rt, first);
     } else {
-        files::say(
-            STDERR_FILENO,
-            b"undo: expected N FILE OUT; undo --help says what it does\n",
-        );
+        let _ = eprintln!(rt; "undo: expected N FILE OUT; undo --help says what it does");
     }
 }
 
-fn main() {
-    let count = os::arg_count();
-    let mut first = io::buffer();
-    let n = os::arg(1, &mut first);
-    run(count, &first[..n]);
+fn main(rt: HostRuntime) {
+    run(&rt);
 }
