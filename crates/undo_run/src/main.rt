@@ -3,16 +3,17 @@
 
 #![tactic(auto)]
 
-ghost use Rattle.std.specs.Prelude.{◌≤◌};
+ghost use Rattle.std.specs.Prelude.{◌≤◌, IfOk, length};
 ghost use Rattle.rules.specs.Undo.{undo};
 ghost use Rattle.undoing.specs.Undoing.{Is};
 
 use earlier::reading;
-use libc::{STDIN_FILENO, STDOUT_FILENO};
 use lines::print;
 use rules::{
     FLOW_WORDS, FlowRows, GroupHeads, GroupMembers, HEAD_WORDS, MAX_FLOWS, MAX_GROUPS, MAX_MEMBERS,
 };
+use std::io;
+use std::io::{Read, Write};
 use undoing::Undone;
 
 // The most bytes that a journal and a room have here; of a longer one as many are taken.
@@ -28,10 +29,6 @@ struct Question {
     room: usize,
     journal: usize,
     there: bool,
-}
-
-fn say(text: &[u8]) -> bool {
-    io::write_all(STDOUT_FILENO, text)
 }
 
 // A journal fed in pieces of so many bytes. What a piece leaves stands in front of the next.
@@ -149,7 +146,7 @@ fn agrees_in(n: u64, s: &[u8], step: usize, whole: Undone, room: &[u8], space: &
 {
     let size = numbers::min(room.len(), space.len());
     let u = undo_in_pieces(n, s, step, &mut space[..size]);
-    same_numbers(u, whole) & check::same(&space[..size], room)
+    same_numbers(u, whole) & (&space[..size] == room)
 }
 
 fn agrees(n: u64, s: &[u8], step: usize, whole: Undone, room: &[u8]) -> bool
@@ -160,73 +157,110 @@ fn agrees(n: u64, s: &[u8], step: usize, whole: Undone, room: &[u8]) -> bool
 }
 
 // done and the list's length, or the line that refuses.
-fn print_outcome(u: Undone) {
+fn print_outcome<W: Write>(out: &mut W, u: Undone) -> io::Result<()> {
     let answer = u.answer;
     let number = answers::number(answer);
     if number == 0 {
-        say(b"done");
-        print::value(u.size as u64);
-        print::end();
-        return;
+        out.write_all(b"done")?;
+        print::value(out, u.size as u64)?;
+        return print::end(out);
     }
     let mut text = [0u8; 160];
     let n = report::undone(&mut text, number, u.at, u.count, u.size as u64);
-    say(&text[..n]);
+    out.write_all(&text[..n])
 }
 
-fn print_question(number: u64, n: u64, s: &[u8], u: Undone, room: &[u8]) {
-    say(b"undo");
-    print::value(number);
-    print::end();
-    print_outcome(u);
-    say(b"room ");
-    print::bytes(room);
-    print::end();
+fn print_question<W: Write>(
+    out: &mut W,
+    number: u64,
+    n: u64,
+    s: &[u8],
+    u: Undone,
+    room: &[u8],
+) -> io::Result<()> {
+    out.write_all(b"undo")?;
+    print::value(out, number)?;
+    print::end(out)?;
+    print_outcome(out, u)?;
+    out.write_all(b"room ")?;
+    print::bytes(out, room)?;
+    print::end(out)?;
     if !(agrees(n, s, 1, u, room) & agrees(n, s, 7, u, room) & agrees(n, s, 100, u, room)) {
-        say(b"in pieces: something else\n");
+        out.write_all(b"in pieces: something else\n")?;
     }
+    Ok(())
 }
 
-fn answer_in(number: u64, n: u64, s: &[u8], long: usize, space: &mut [u8]) {
+fn answer_in<W: Write>(
+    out: &mut W,
+    number: u64,
+    n: u64,
+    s: &[u8],
+    long: usize,
+    space: &mut [u8],
+) -> io::Result<()> {
     let size = numbers::min(long, space.len());
     let u = undo_whole(n, s, &mut space[..size]);
-    print_question(number, n, s, u, &space[..size]);
+    print_question(out, number, n, s, u, &space[..size])
 }
 
-fn answer(number: u64, n: u64, s: &[u8], long: usize) {
+fn answer<W: Write>(out: &mut W, number: u64, n: u64, s: &[u8], long: usize) -> io::Result<()> {
     let mut space = [KEPT; MOST];
-    answer_in(number, n, s, long, &mut space);
+    answer_in(out, number, n, s, long, &mut space)
 }
 
-fn ask() -> Question {
+// Reads until the buffer is full, or to the input's end. Gives how many bytes came.
+fn read_full<R: Read>(from: &mut R, buffer: &mut [u8]) -> io::Result<usize>
+    ensures { IfOk result (λ n. n ≤ length buffer.new) }
+{
+    let mut done: usize = 0;
+    while done < buffer.len() {
+        let n = from.read(&mut buffer[done..])?;
+        if n == 0 {
+            break;
+        }
+        done += n;
+    }
+    Ok(done)
+}
+
+fn ask<R: Read>(from: &mut R) -> io::Result<Question> {
     let mut head = [0u8; 16];
-    let got = io::read_full(STDIN_FILENO, &mut head);
-    Question {
+    let got = read_full(from, &mut head)?;
+    Ok(Question {
         n: wire::le64(&head, 0),
         room: wire::le32(&head, 8) as usize,
         journal: wire::le32(&head, 12) as usize,
         there: got == 16,
-    }
+    })
 }
 
-fn turn(number: u64, q: Question, buffer: &mut [u8]) {
+fn turn<R: Read, W: Write>(
+    from: &mut R,
+    out: &mut W,
+    number: u64,
+    q: Question,
+    buffer: &mut [u8],
+) -> io::Result<()> {
     let size = numbers::min(q.journal, buffer.len());
-    let got = io::read_full(STDIN_FILENO, &mut buffer[..size]);
+    let got = read_full(from, &mut buffer[..size])?;
     let k = numbers::min(got, buffer.len());
-    answer(number, q.n, &buffer[..k], q.room);
+    answer(out, number, q.n, &buffer[..k], q.room)
 }
 
-fn answer_all(buffer: &mut [u8]) {
-    let mut number: u64 = 0;
-    let mut q = ask();
-    while number < 1000000 && q.there {
-        number += 1;
-        turn(number, q, buffer);
-        q = ask();
+fn answer_all<R: Read, W: Write>(from: &mut R, out: &mut W, buffer: &mut [u8]) -> io::Result<()> {
+    let mut q = ask(from)?;
+    for number in 1..1000001u64 {
+        if !q.there {
+            break;
+        }
+        turn(from, out, number, q, buffer)?;
+        q = ask(from)?;
     }
+    Ok(())
 }
 
-fn main() {
+fn main(rt: HostRuntime) -> io::Result<()> {
     let mut buffer = [0u8; MOST];
-    answer_all(&mut buffer);
+    answer_all(&mut rt.stdin(), &mut rt.stdout(), &mut buffer)
 }
