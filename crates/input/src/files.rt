@@ -10,6 +10,7 @@ use std::rt::Files;
 
 // The system's numbers of two errors: what is missing, and a name that is too long.
 const INVALID_ARGUMENT: i32 = 22;
+
 const NAME_TOO_LONG: i32 = 36;
 
 // A word of the program's call as a path, or why it is none.

@@ -14,11 +14,10 @@ use replaying::replay::Replayed;
 use rules::{
     FLOW_WORDS, FlowRows, GroupHeads, GroupMembers, HEAD_WORDS, MAX_FLOWS, MAX_GROUPS, MAX_MEMBERS,
 };
-use std::fs;
 use std::fs::File;
-use std::io;
 use std::io::{IsTerminal, Read, Write};
 use std::rt::Files;
+use std::{fs, io};
 
 // What a file is written to while it grows, one after another.
 const GROWN: &str = "grown";

@@ -59,13 +59,7 @@ fn write_all<T: Files>(rt: &T, path: &str, list: &[u8]) -> io::Result<()> {
     file.write_all(list)?;
     match file.sync_all() {
         Ok(()) => Ok(()),
-        Err(e) => {
-            if needs_no_disk(&e) {
-                Ok(())
-            } else {
-                Err(e)
-            }
-        }
+        Err(e) => { if needs_no_disk(&e) { Ok(()) } else { Err(e) } }
     }
 }
 
