@@ -7,28 +7,28 @@ ghost use Rattle.rules.specs.Answers.{number};
 ghost use Rattle.rules.specs.Registers.{register_at, is_wide, upper_of, narrow_at, covered_by, wide_at, access, access_refusal};
 ghost use Rattle.access.specs.Shapes.{is_narrow, is_eight};
 
-use rules::{Access, Answer, Located, Register, RingRegister};
+use rules::{Access, Answer, Register, RingRegister};
 
 // The register that starts at an offset.
-fn register_at(offset: u64) -> Located
+fn register_at(offset: u64) -> Option<Register>
     ensures { result ≡ register_at offset }
 {
     match offset {
-        0x0000 | 0x0008 => Located::Here(Register::Magic),
-        0x0010 => Located::Here(Register::TestReg),
-        0x0018 => Located::Here(Register::TestReg64),
-        0x0300 => Located::Here(Register::Control),
-        0x0304 => Located::Here(Register::PortPhysCount),
-        0x0310 => Located::Here(Register::PortPhysLinkStatus),
-        0x0318 => Located::Here(Register::PortPhysEnable),
-        0x0320 => Located::Here(Register::SwitchId),
-        0x1000 => Located::Here(Register::OfRing(0, RingRegister::BaseAddr)),
-        0x1008 => Located::Here(Register::OfRing(0, RingRegister::Size)),
-        0x100c => Located::Here(Register::OfRing(0, RingRegister::Head)),
-        0x1010 => Located::Here(Register::OfRing(0, RingRegister::Tail)),
-        0x1014 => Located::Here(Register::OfRing(0, RingRegister::Ctrl)),
-        0x1018 => Located::Here(Register::OfRing(0, RingRegister::Credits)),
-        _ => Located::Nowhere,
+        0x0000 | 0x0008 => Some(Register::Magic),
+        0x0010 => Some(Register::TestReg),
+        0x0018 => Some(Register::TestReg64),
+        0x0300 => Some(Register::Control),
+        0x0304 => Some(Register::PortPhysCount),
+        0x0310 => Some(Register::PortPhysLinkStatus),
+        0x0318 => Some(Register::PortPhysEnable),
+        0x0320 => Some(Register::SwitchId),
+        0x1000 => Some(Register::OfRing(0, RingRegister::BaseAddr)),
+        0x1008 => Some(Register::OfRing(0, RingRegister::Size)),
+        0x100c => Some(Register::OfRing(0, RingRegister::Head)),
+        0x1010 => Some(Register::OfRing(0, RingRegister::Tail)),
+        0x1014 => Some(Register::OfRing(0, RingRegister::Ctrl)),
+        0x1018 => Some(Register::OfRing(0, RingRegister::Credits)),
+        _ => None,
     }
 }
 
@@ -50,12 +50,12 @@ fn is_wide(r: Register) -> bool
 }
 
 // The upper half of a register that starts 4 bytes before.
-fn upper_of(before: Located) -> Access
+fn upper_of(before: Option<Register>) -> Access
     ensures { result ≡ upper_of before }
 {
     match before {
-        Located::Nowhere => Access::Reserved,
-        Located::Here(r) => {
+        None => Access::Reserved,
+        Some(r) => {
             if is_wide(r) {
                 return Access::Upper(r);
             }
@@ -76,8 +76,8 @@ fn narrow_at(offset: u64) -> Access
     ensures { result ≡ narrow_at (register_at offset) (register_at (offset - 4)) }
 {
     match register_at(offset) {
-        Located::Nowhere => upper_of(register_at(before(offset))),
-        Located::Here(r) => {
+        None => upper_of(register_at(before(offset))),
+        Some(r) => {
             if is_wide(r) {
                 return Access::Lower(r);
             }
@@ -86,12 +86,12 @@ fn narrow_at(offset: u64) -> Access
     }
 }
 
-fn covered_by(after: Located) -> Access
+fn covered_by(after: Option<Register>) -> Access
     ensures { result ≡ covered_by after }
 {
     match after {
-        Located::Nowhere => Access::Reserved,
-        Located::Here(_) => Access::NotAllowed,
+        None => Access::Reserved,
+        Some(_) => Access::NotAllowed,
     }
 }
 
@@ -101,8 +101,8 @@ fn wide_at(offset: u64) -> Access
     ensures { result ≡ wide_at (register_at offset) (register_at (offset + 4)) }
 {
     match register_at(offset) {
-        Located::Nowhere => covered_by(register_at(offset + 4)),
-        Located::Here(r) => {
+        None => covered_by(register_at(offset + 4)),
+        Some(r) => {
             if is_wide(r) {
                 return Access::Whole(r);
             }

@@ -1,11 +1,11 @@
-// The numbers that document 01 gives to answers and statuses.
+// The numbers of answers and the codes of statuses.
 
 #![tactic(auto)]
 
 ghost use Rattle.std.specs.Prelude.{◌≡◌};
-ghost use Rattle.rules.specs.Answers.{number, code};
+ghost use Rattle.rules.specs.Answers.{number, code, refusal_number, answer_number};
 
-use rules::{Answer, Status};
+use rules::{Answer, Refusal, Status};
 
 pub fn number(answer: Answer) -> u64
     ensures { result ≡ number answer }
@@ -31,17 +31,29 @@ pub fn number(answer: Answer) -> u64
     }
 }
 
+/// The number of a refusal.
+#[tactic(auto, unfolding(rules::specs::Answers::refusal_number))]
+pub fn refusal_number(refusal: Refusal) -> u64
+    ensures { result ≡ refusal_number refusal }
+{
+    refusal as u64
+}
+
+/// What a call answers: 0 where it is done, else the number of its refusal.
+#[tactic(auto, unfolding(rules::specs::Answers::answer_number))]
+pub fn answer_number<T>(outcome: &Result<T, Refusal>) -> u64
+    ensures { result ≡ answer_number outcome.now }
+{
+    match outcome {
+        Ok(_) => 0,
+        Err(refusal) => refusal_number(*refusal),
+    }
+}
+
+/// The code of a status.
+#[tactic(auto, unfolding(rules::specs::Answers::code))]
 pub fn code(status: Status) -> u16
     ensures { result ≡ code status }
 {
-    match status {
-        Status::Ok => 0,
-        Status::Enoent => 2,
-        Status::Enxio => 6,
-        Status::Enomem => 12,
-        Status::Eexist => 17,
-        Status::Einval => 22,
-        Status::Emsgsize => 90,
-        Status::Enotsup => 95,
-    }
+    status as u16
 }

@@ -20,8 +20,7 @@ use Rattle.rules.specs.declared.Status.{Status}
 use Rattle.rules.specs.declared.Status.TheVariants.{Ok}
 use Rattle.rules.specs.declared.Command.{Command}
 use Rattle.rules.specs.declared.Command.TheVariants.{FlowAdd, FlowMod, FlowDel, GroupAdd, GroupMod, GroupDel}
-use Rattle.rules.specs.declared.Decoded.{Decoded}
-use Rattle.rules.specs.declared.Decoded.TheVariants.{Carry, Refused}
+use Rattle.std.specs.Prelude.{Result, Ok as Carry, Err as Refused}
 use Rattle.rules.specs.declared.Decoding.{Decoding}
 use Rattle.rules.proofs.Cases.{by_test}
 use Rattle.rules.proofs.Tables.{cookie_kept}
@@ -36,7 +35,7 @@ use Rattle.carrying.specs.declared.CarriedOut.{CarriedOut}
 abbrev with_order : Arrays → List ℕ → Storage
 with_order a order = record { arrays = a; order = order }
 
-abbrev decoding : Decoded → List ℕ → Decoding
+abbrev decoding : Result Command Status → List ℕ → Decoding
 decoding what m = record { what = what; members = m }
 
 -- ---- A command of the flow table
@@ -131,7 +130,7 @@ faulty counts firsts a order m e =
     }
 
 -- by what it asks for
-pub asked : {r : CarriedOut} {counts : Counts} {firsts : Firsts} {s s' : Storage} {what : Decoded} (d : Decoding) → d.what ≡ what
+pub asked : {r : CarriedOut} {counts : Counts} {firsts : Firsts} {s s' : Storage} {what : Result Command Status} (d : Decoding) → d.what ≡ what
     → Carries r counts firsts s s' (decoding what d.members) → Carries r counts firsts s s' d
 asked {r} {counts} {firsts} {s} {s'} d e h =
-    subst (λ (w : Decoded). Carries r counts firsts s s' (decoding w d.members)) (sym e) h
+    subst (λ (w : Result Command Status). Carries r counts firsts s s' (decoding w d.members)) (sym e) h

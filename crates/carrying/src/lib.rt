@@ -3,20 +3,19 @@
 
 #![tactic(auto)]
 
-ghost use Rattle.std.specs.Prelude.{◌+◌, ◌-◌, ◌<◌, ◌≤◌, ◌≡◌, length};
+ghost use Rattle.std.specs.Prelude.{◌+◌, ◌-◌, ◌<◌, ◌≤◌, ◌≡◌, length, Ok as Carry};
 ghost use Rattle.rules.specs.Limits.{max_flows};
 ghost use Rattle.rules.specs.Places.{places, live};
 ghost use Rattle.rules.specs.Rows.{entry_in};
 ghost use Rattle.rules.specs.Tables.{cookie_of, live_flows};
 ghost use Rattle.rules.specs.Engine.{order_added, order_changed, order_deleted};
 ghost use Rattle.rules.specs.Switch.{storage, order_in};
-ghost use Rattle.rules.specs.declared.Decoded.TheVariants.{Carry};
 ghost use Rattle.tables.specs.Commands.{Added, Modded, Deleted};
 ghost use Rattle.carrying.specs.Outcome.{AddFollowed, ModFollowed, DelFollowed, Carries};
 
 use execute::Executed;
 use rules::{
-    Command, Counts, Decoded, Decoding, Firsts, FlowEntry, FlowOrder, FlowRows, GroupHeads,
+    Command, Counts, Decoding, Firsts, FlowEntry, FlowOrder, FlowRows, GroupHeads,
     GroupMembers, MAX_FLOWS, Members, Status,
 };
 
@@ -262,8 +261,8 @@ pub fn carry_out(
     let what = d.what;
     let m = d.members;
     match what {
-        Decoded::Carry(c) => command(c, m, counts, firsts, flows, heads, members, order),
-        Decoded::Refused(status) => CarriedOut {
+        Ok(c) => command(c, m, counts, firsts, flows, heads, members, order),
+        Err(status) => CarriedOut {
             status: status,
             counts: counts,
             firsts: firsts,

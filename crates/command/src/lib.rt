@@ -10,7 +10,7 @@ ghost use Rattle.rules.specs.Decode.{header_of, refused, carried, is_command, co
 ghost use Rattle.tlv.specs.Index.{Indexed};
 ghost use Rattle.rules.specs.Limits.{field_types};
 
-use rules::{Command, Decoded, Decoding, FIELD_TYPES, MAX_MEMBERS, Status, Terms};
+use rules::{Command, Decoding, FIELD_TYPES, MAX_MEMBERS, Status, Terms};
 
 mod flow;
 mod group;
@@ -38,7 +38,7 @@ fn refused(e: Status) -> Decoding
     ensures { result ≡ refused e }
 {
     Decoding {
-        what: Decoded::Refused(e),
+        what: Err(e),
         members: [0; MAX_MEMBERS],
     }
 }
@@ -48,7 +48,7 @@ fn carried(command: Command, lows: [u16; MAX_MEMBERS]) -> Decoding
     ensures { (l : List ℕ) → lows ≡ pad l → result ≡ carried command l }
 {
     Decoding {
-        what: Decoded::Carry(command),
+        what: Ok(command),
         members: lows,
     }
 }

@@ -19,8 +19,8 @@ use Rattle.rules.specs.Switch.{Switch, Borrowed, Result, Carried, unchanged, unl
 use Rattle.rules.specs.declared.Terms.{Terms}
 use Rattle.rules.specs.declared.Command.{Command}
 use Rattle.rules.specs.declared.Command.TheVariants.{FlowAdd, FlowMod, FlowDel, GroupAdd, GroupMod, GroupDel}
-use Rattle.rules.specs.declared.Decoded.{Decoded}
-use Rattle.rules.specs.declared.Decoded.TheVariants.{Carry, Refused}
+use Rattle.std.specs.Prelude.{Result as Either, Ok as Carry, Err as Refused}
+use Rattle.rules.specs.declared.Status.{Status}
 use Rattle.rules.specs.declared.Request.{Request}
 use Rattle.rules.specs.declared.Request.TheVariants.{Read, Write, Link, Process, Frame, Header}
 use Rattle.rules.proofs.Cases.{by_test}
@@ -81,7 +81,7 @@ command_status_lem t t' o h (GroupAdd g) = rw h.groups_are refl
 command_status_lem t t' o h (GroupMod g) = rw h.groups_are refl
 command_status_lem t t' o h (GroupDel k) = rw h.groups_are refl
 
-decoded_status_lem : (t t' : Tables) (o : Order) → AlikeTables t t' o → (w : Decoded) → decoded_status_in unordered t w ≡ decoded_status_in by_cookie t' w
+decoded_status_lem : (t t' : Tables) (o : Order) → AlikeTables t t' o → (w : Either Command Status) → decoded_status_in unordered t w ≡ decoded_status_in by_cookie t' w
 unfolding decoded_status_in
 decoded_status_lem t t' o h (Carry c) = command_status_lem t t' o h c
 decoded_status_lem t t' o h (Refused e) = refl
@@ -122,7 +122,7 @@ module _ (t t' : Tables) (o : Order) (h : AlikeTables t t' o) where
   command_flows (GroupMod g) m z = (h.flows_are, h.distinct)
   command_flows (GroupDel k) m z = (h.flows_are, h.distinct)
 
-  decoded_alike : (w : Decoded) (m : List ℕ) → code (decoded_status t' w) ≡ 0 → Good (decoded_effect t' w m)
+  decoded_alike : (w : Either Command Status) (m : List ℕ) → code (decoded_status t' w) ≡ 0 → Good (decoded_effect t' w m)
       → AlikeTables (decoded_effect_in unordered t w m) (decoded_effect_in by_cookie t' w m) (followed ordered t'.flows w o)
   unfolding decoded_status_in decoded_effect_in followed
   decoded_alike (Carry c) m z g =

@@ -9,7 +9,7 @@ ghost use Rattle.rules.specs.declared.Command.TheVariants.{GroupAdd, GroupMod, G
 ghost use Rattle.rules.specs.declared.Match.TheVariants.{IngressPort, Vlan, TerminationMac, UnicastRouting, Bridging};
 
 use rules::{
-    Command, Counts, Decoded, Decoding, Flow, FlowEntry, FlowRows, Group, GroupEntry, GroupHeads,
+    Command, Counts, Decoding, Flow, FlowEntry, FlowRows, Group, GroupEntry, GroupHeads,
     GroupMembers, Match, Members, Status,
 };
 use tables::Counted;
@@ -294,8 +294,8 @@ pub fn execute(
     let what = d.what;
     let m = d.members;
     match what {
-        Decoded::Carry(c) => command(c, m, counts, flows, heads, members),
-        Decoded::Refused(status) => Executed {
+        Ok(c) => command(c, m, counts, flows, heads, members),
+        Err(status) => Executed {
             status: status,
             counts: counts,
         },

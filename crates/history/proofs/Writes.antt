@@ -7,6 +7,7 @@ use native.Mathlib.Omega.{arith}
 use native.Mathlib.Nat.{pow-le-pow_right}
 use lib.Dec.{ltb, leb, eqb}
 use borrow.Author.Tests.{ltb-true, ltb-false, leb-true, eqb-true, not-false}
+use Rattle.std.specs.Prelude.{Option, Some, None}
 use Rattle.rules.specs.Choose.{choose, refuse}
 use Rattle.rules.specs.Ring.{zero_ring, distance, outstanding, advance, base_effect, power_up_to, size_refusal, size_effect, head_refusal, head_effect, credits_refusal, credits_effect, ctrl_effect, ring_wide, ring_store, base_latched, ring_latched}
 use Rattle.rules.specs.Registers.{command_ring, Written, access, upper_of, narrow_at, covered_by, wide_at, is_wide, register_at, with_ring, with_links, with_test, with_test64, with_enable, fresh_registers, reset_registers, sets, in_ring, store, latch_effect, taken, joined, write_to, unless_refused, write}
@@ -14,8 +15,6 @@ use Rattle.rules.specs.declared.Registers.{Registers}
 use Rattle.rules.specs.declared.Register.{Register}
 use Rattle.rules.specs.declared.Register.TheVariants.{Magic, TestReg, TestReg64, Control, PortPhysCount, PortPhysLinkStatus, PortPhysEnable, SwitchId, OfRing}
 use Rattle.rules.specs.declared.RingRegister.TheVariants.{BaseAddr, Size, Head, Tail, Ctrl, Credits}
-use Rattle.rules.specs.declared.Located.{Located}
-use Rattle.rules.specs.declared.Located.TheVariants.{Nowhere, Here}
 use Rattle.rules.specs.declared.Access.{Access}
 use Rattle.rules.specs.declared.Access.TheVariants.{NotAllowed, Reserved, Whole, Lower, Upper}
 use Rattle.rules.proofs.Cases.{by_test, by_eq, not_both, and_left, and_right}
@@ -137,24 +136,24 @@ choose_either : (P : Access → Type 0) (t : Bool) (a b : Access) → P a → P 
 choose_either P true a b f g = f
 choose_either P false a b f g = g
 
-upper_halves : (l : Located) → Halves (upper_of l)
+upper_halves : (l : Option Register) → Halves (upper_of l)
 unfolding upper_of
-upper_halves Nowhere = tt
-upper_halves (Here r) = by_test (is_wide r) (λ p. rw p p) (λ p. rw p tt)
+upper_halves None = tt
+upper_halves (Some r) = by_test (is_wide r) (λ p. rw p p) (λ p. rw p tt)
 
-narrow_halves : (l before : Located) → Halves (narrow_at l before)
+narrow_halves : (l before : Option Register) → Halves (narrow_at l before)
 unfolding narrow_at
-narrow_halves Nowhere before = upper_halves before
-narrow_halves (Here r) before = choose_either Halves (is_wide r) (Lower r) (Whole r) tt tt
+narrow_halves None before = upper_halves before
+narrow_halves (Some r) before = choose_either Halves (is_wide r) (Lower r) (Whole r) tt tt
 
-wide_halves : (l after : Located) → Halves (wide_at l after)
+wide_halves : (l after : Option Register) → Halves (wide_at l after)
 unfolding wide_at
-wide_halves Nowhere after = covered after
+wide_halves None after = covered after
   where
-    covered : (l : Located) → Halves (covered_by l)
-    covered Nowhere = unfold covered_by in tt
-    covered (Here r) = unfold covered_by in tt
-wide_halves (Here r) after = choose_either Halves (is_wide r) (Whole r) NotAllowed tt tt
+    covered : (l : Option Register) → Halves (covered_by l)
+    covered None = unfold covered_by in tt
+    covered (Some r) = unfold covered_by in tt
+wide_halves (Some r) after = choose_either Halves (is_wide r) (Whole r) NotAllowed tt tt
 
 access_halves : (offset width : ℕ) → Halves (access offset width)
 unfolding access

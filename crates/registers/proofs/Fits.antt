@@ -1,11 +1,10 @@
 -- A taken number fits what its access reaches.
 -- Assumes nothing.
 use Rattle.std.proofs.Common.{◌≡◌, ℕ, ◌+◌, ◌-◌, ◌%◌, ◌^◌, ◌<◌, Bool, true, false, refl, arith}
+use Rattle.std.specs.Prelude.{Option, Some, None}
 use Rattle.rules.specs.Choose.{choose}
 use Rattle.rules.specs.Registers.{register_at, is_wide, upper_of, narrow_at, covered_by, wide_at, access, taken}
 use Rattle.rules.specs.declared.Register.{Register}
-use Rattle.rules.specs.declared.Located.{Located}
-use Rattle.rules.specs.declared.Located.TheVariants.{Nowhere, Here}
 use Rattle.rules.specs.declared.Access.TheVariants.{NotAllowed, Reserved, Whole, Lower, Upper}
 use Rattle.access.specs.Shapes.{is_narrow, is_eight}
 use Rattle.access.proofs.Reach.{access_narrow, access_eight, access_none, narrow_four}
@@ -23,11 +22,11 @@ unfolding Bounded
 lower_fits r v true h = h
 lower_fits r v false h = λ _. h
 
-narrow_fits : (here before : Located) (v : ℕ) → v < 2 ^ 32 → Bounded (narrow_at here before) v
+narrow_fits : (here before : Option Register) (v : ℕ) → v < 2 ^ 32 → Bounded (narrow_at here before) v
 unfolding Bounded narrow_at upper_of
-narrow_fits Nowhere Nowhere v h = tt
-narrow_fits Nowhere (Here r) v h = upper_fits r v (is_wide r) refl h
-narrow_fits (Here r) before v h = lower_fits r v (is_wide r) h
+narrow_fits None None v h = tt
+narrow_fits None (Some r) v h = upper_fits r v (is_wide r) refl h
+narrow_fits (Some r) before v h = lower_fits r v (is_wide r) h
 
 -- 8 bytes reach a register of 8
 whole_fits : (r : Register) (v : ℕ) (wide : Bool) → is_wide r ≡ wide → Bounded (choose wide (Whole r) NotAllowed) v
@@ -35,11 +34,11 @@ unfolding Bounded
 whole_fits r v true e = λ n. true_or_false (is_wide r) e n
 whole_fits r v false e = tt
 
-wide_fits : (here after : Located) (v : ℕ) → Bounded (wide_at here after) v
+wide_fits : (here after : Option Register) (v : ℕ) → Bounded (wide_at here after) v
 unfolding Bounded wide_at covered_by
-wide_fits Nowhere Nowhere v = tt
-wide_fits Nowhere (Here r) v = tt
-wide_fits (Here r) after v = whole_fits r v (is_wide r) refl
+wide_fits None None v = tt
+wide_fits None (Some r) v = tt
+wide_fits (Some r) after v = whole_fits r v (is_wide r) refl
 
 taken_fits_at : (offset width v : ℕ) (n e : Bool) → is_narrow offset width ≡ n → is_eight offset width ≡ e → Bounded (access offset width) (taken width v)
 unfolding Bounded taken

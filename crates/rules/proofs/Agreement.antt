@@ -29,8 +29,7 @@ use Rattle.rules.specs.declared.Flow.{Flow}
 use Rattle.rules.specs.declared.Group.{Group}
 use Rattle.rules.specs.declared.Command.{Command}
 use Rattle.rules.specs.declared.Command.TheVariants.{FlowAdd, FlowMod, FlowDel, GroupAdd, GroupMod, GroupDel}
-use Rattle.rules.specs.declared.Decoded.{Decoded}
-use Rattle.rules.specs.declared.Decoded.TheVariants.{Carry, Refused}
+use Rattle.std.specs.Prelude.{Result, Ok as Carry, Err as Refused}
 use Rattle.rules.specs.declared.Decoding.{Decoding}
 use Rattle.rules.specs.declared.Descriptor.{Descriptor}
 use Rattle.rules.proofs.Cases.{by_test}
@@ -40,7 +39,7 @@ use Rattle.rules.proofs.Cases.{by_test}
 abbrev Read : Status → Type 0
 Read e = is_unread (completion e) ≡ false
 
-abbrev ReadBy : Decoded → Type 0
+abbrev ReadBy : Result Command Status → Type 0
 ReadBy (Carry c) = Unit {0}
 ReadBy (Refused e) = Read e
 
@@ -105,7 +104,7 @@ module _ {A : Type 0} (key : A → ℕ) (k : ℕ) (l : List A) where
   unfolding held_status is_unread completion code
   held_read = by_test (holds key k l) (λ p. rw p) (λ p. rw p)
 
-status_read : (t : Tables) (w : Decoded) → ReadBy w → Read (decoded_status t w)
+status_read : (t : Tables) (w : Result Command Status) → ReadBy w → Read (decoded_status t w)
 unfolding decoded_status_in command_status_in
 status_read t (Carry (FlowAdd f)) h = add_read cookie_of f.cookie t.flows max_flows
 status_read t (Carry (FlowMod f)) h = held_read cookie_of f.cookie t.flows

@@ -21,8 +21,7 @@ use Rattle.rules.specs.declared.Match.TheVariants.{IngressPort, Vlan, Terminatio
 use Rattle.rules.specs.declared.Flow.{Flow}
 use Rattle.rules.specs.declared.Command.{Command}
 use Rattle.rules.specs.declared.Command.TheVariants.{FlowAdd, FlowMod, FlowDel, GroupAdd, GroupMod, GroupDel}
-use Rattle.rules.specs.declared.Decoded.{Decoded}
-use Rattle.rules.specs.declared.Decoded.TheVariants.{Carry, Refused}
+use Rattle.std.specs.Prelude.{Result, Ok as Carry, Err as Refused}
 use Rattle.rules.proofs.Cases.{by_test, by_le}
 use Rattle.rules.proofs.Keyed.{rising_insert, rising_replace, rising_remove, length_insert, length_replace, length_remove_le}
 
@@ -141,7 +140,7 @@ command_good t (GroupDel k) m g h =
       groups_fit = omega (arith, length_remove_le id_of k t.groups);
     }
 
-decoded_good : (t : Tables) (w : Decoded) (m : List ℕ) → Good t → code (decoded_status t w) ≡ 0 → Good (decoded_effect t w m)
+decoded_good : (t : Tables) (w : Result Command Status) (m : List ℕ) → Good t → code (decoded_status t w) ≡ 0 → Good (decoded_effect t w m)
 unfolding decoded_status_in decoded_effect_in
 decoded_good t (Carry c) m g h = command_good t c m g h
 decoded_good t (Refused e) m g h = g

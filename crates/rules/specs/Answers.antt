@@ -1,5 +1,7 @@
 -- "Answer numbers", and the codes of "Work: one slot".
-use Rattle.std.specs.Prelude.{ℕ}
+use Rattle.std.specs.Prelude.{ℕ, Result, Ok as Served, Err}
+use Rattle.rules.specs.declared.Refusal.{Refusal}
+use Rattle.rules.specs.declared.Refusal.TheVariants as refusals
 use Rattle.rules.specs.declared.Answer.{Answer}
 use Rattle.rules.specs.declared.Answer.TheVariants.{Done, AccessNotAllowed, ValueNotAllowed, RingEmpty, CreditsFull, DescriptorOutside, BufferShort, PortNotAllowed, NotAFrame, ListShort, CutShort, BadMark, BadVersion, BadPortCount, RecordDisagrees, TooFewRecords, RoomShort}
 use Rattle.rules.specs.declared.Status.{Status}
@@ -36,3 +38,27 @@ code Eexist = 17
 code Einval = 22
 code Emsgsize = 90
 code Enotsup = 95
+
+-- the same numbers, of refusals alone
+unfoldable pub refusal_number : Refusal → ℕ
+refusal_number refusals.AccessNotAllowed = 1
+refusal_number refusals.ValueNotAllowed = 2
+refusal_number refusals.RingEmpty = 3
+refusal_number refusals.CreditsFull = 4
+refusal_number refusals.DescriptorOutside = 5
+refusal_number refusals.BufferShort = 6
+refusal_number refusals.PortNotAllowed = 7
+refusal_number refusals.NotAFrame = 8
+refusal_number refusals.ListShort = 9
+refusal_number refusals.CutShort = 10
+refusal_number refusals.BadMark = 11
+refusal_number refusals.BadVersion = 12
+refusal_number refusals.BadPortCount = 13
+refusal_number refusals.RecordDisagrees = 14
+refusal_number refusals.TooFewRecords = 15
+refusal_number refusals.RoomShort = 16
+
+-- what a call answers: 0 where it is done
+unfoldable pub answer_number : {A : Type 0} → Result A Refusal → ℕ
+answer_number (Served x) = 0
+answer_number (Err r) = refusal_number r

@@ -18,7 +18,7 @@ use Rattle.rules.specs.declared.Match.TheVariants.{IngressPort, Vlan, Terminatio
 use Rattle.rules.specs.declared.Flow.{Flow}
 use Rattle.rules.specs.declared.Command.{Command}
 use Rattle.rules.specs.declared.Command.TheVariants.{FlowAdd, FlowMod, FlowDel, GroupAdd, GroupMod, GroupDel}
-use Rattle.rules.specs.declared.Decoded.TheVariants.{Carry, Refused}
+use Rattle.std.specs.Prelude.{Ok as Carry, Err as Refused}
 use Rattle.rules.specs.declared.Decoding.{Decoding}
 
 unfoldable pub refused : Status → Decoding

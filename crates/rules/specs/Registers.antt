@@ -1,5 +1,5 @@
 -- "Registers": the map of 0x0000 to 0x1fff, what an access reaches, reads, writes, latches (document 01: holds) and resets.
-use Rattle.std.specs.Prelude.{ℕ, ◌+◌, ◌-◌, ◌*◌, ◌/◌, ◌%◌, ◌^◌, min, Bool, true, false, ◌&&◌, List, [], ◌∷◌, leb, eqb}
+use Rattle.std.specs.Prelude.{ℕ, ◌+◌, ◌-◌, ◌*◌, ◌/◌, ◌%◌, ◌^◌, min, Bool, true, false, ◌&&◌, Option, Some, None, List, [], ◌∷◌, leb, eqb}
 use Rattle.rules.specs.Choose.{choose}
 use Rattle.rules.specs.Bytes.{bit}
 use Rattle.rules.specs.Limits.{max_ports}
@@ -11,30 +11,28 @@ use Rattle.rules.specs.declared.Registers.{Registers}
 use Rattle.rules.specs.declared.Register.{Register}
 use Rattle.rules.specs.declared.Register.TheVariants.{Magic, TestReg, TestReg64, Control, PortPhysCount, PortPhysLinkStatus, PortPhysEnable, SwitchId, OfRing}
 use Rattle.rules.specs.declared.RingRegister.TheVariants.{BaseAddr, Size, Head, Tail, Ctrl, Credits}
-use Rattle.rules.specs.declared.Located.{Located}
-use Rattle.rules.specs.declared.Located.TheVariants.{Nowhere, Here}
 use Rattle.rules.specs.declared.Access.{Access}
 use Rattle.rules.specs.declared.Access.TheVariants.{NotAllowed, Reserved, Whole, Lower, Upper}
 
 -- The list of registers: where each starts. 0x0000 to 0x000f are twice 8 bytes that read the same. Ring 0 is the command ring.
-unfoldable pub register_at : ℕ → Located
+unfoldable pub register_at : ℕ → Option Register
 register_at offset =
-    choose (eqb offset 0x0000) (Here Magic)
-    (choose (eqb offset 0x0008) (Here Magic)
-    (choose (eqb offset 0x0010) (Here TestReg)
-    (choose (eqb offset 0x0018) (Here TestReg64)
-    (choose (eqb offset 0x0300) (Here Control)
-    (choose (eqb offset 0x0304) (Here PortPhysCount)
-    (choose (eqb offset 0x0310) (Here PortPhysLinkStatus)
-    (choose (eqb offset 0x0318) (Here PortPhysEnable)
-    (choose (eqb offset 0x0320) (Here SwitchId)
-    (choose (eqb offset 0x1000) (Here (OfRing 0 BaseAddr))
-    (choose (eqb offset 0x1008) (Here (OfRing 0 Size))
-    (choose (eqb offset 0x100c) (Here (OfRing 0 Head))
-    (choose (eqb offset 0x1010) (Here (OfRing 0 Tail))
-    (choose (eqb offset 0x1014) (Here (OfRing 0 Ctrl))
-    (choose (eqb offset 0x1018) (Here (OfRing 0 Credits))
-    Nowhere))))))))))))))
+    choose (eqb offset 0x0000) (Some Magic)
+    (choose (eqb offset 0x0008) (Some Magic)
+    (choose (eqb offset 0x0010) (Some TestReg)
+    (choose (eqb offset 0x0018) (Some TestReg64)
+    (choose (eqb offset 0x0300) (Some Control)
+    (choose (eqb offset 0x0304) (Some PortPhysCount)
+    (choose (eqb offset 0x0310) (Some PortPhysLinkStatus)
+    (choose (eqb offset 0x0318) (Some PortPhysEnable)
+    (choose (eqb offset 0x0320) (Some SwitchId)
+    (choose (eqb offset 0x1000) (Some (OfRing 0 BaseAddr))
+    (choose (eqb offset 0x1008) (Some (OfRing 0 Size))
+    (choose (eqb offset 0x100c) (Some (OfRing 0 Head))
+    (choose (eqb offset 0x1010) (Some (OfRing 0 Tail))
+    (choose (eqb offset 0x1014) (Some (OfRing 0 Ctrl))
+    (choose (eqb offset 0x1018) (Some (OfRing 0 Credits))
+    None))))))))))))))
 
 -- the list's "(4)" and "(8)": whether a register has 8 bytes
 unfoldable pub is_wide : Register → Bool
@@ -49,22 +47,22 @@ is_wide SwitchId = true
 is_wide (OfRing n r) = ring_wide r
 
 -- 4 bytes: a register that starts there, whole or its lower half; or the upper half of one that starts 4 bytes before
-unfoldable pub upper_of : Located → Access
-upper_of Nowhere = Reserved
-upper_of (Here r) = choose (is_wide r) (Upper r) Reserved
+unfoldable pub upper_of : Option Register → Access
+upper_of None = Reserved
+upper_of (Some r) = choose (is_wide r) (Upper r) Reserved
 
-unfoldable pub narrow_at : Located → Located → Access
-narrow_at Nowhere before = upper_of before
-narrow_at (Here r) before = choose (is_wide r) (Lower r) (Whole r)
+unfoldable pub narrow_at : Option Register → Option Register → Access
+narrow_at None before = upper_of before
+narrow_at (Some r) before = choose (is_wide r) (Lower r) (Whole r)
 
 -- 8 bytes: a register of 8 that starts there. One "that covers a 4-byte register" of the list is not allowed
-unfoldable pub covered_by : Located → Access
-covered_by Nowhere = Reserved
-covered_by (Here r) = NotAllowed
+unfoldable pub covered_by : Option Register → Access
+covered_by None = Reserved
+covered_by (Some r) = NotAllowed
 
-unfoldable pub wide_at : Located → Located → Access
-wide_at Nowhere after = covered_by after
-wide_at (Here r) after = choose (is_wide r) (Whole r) NotAllowed
+unfoldable pub wide_at : Option Register → Option Register → Access
+wide_at None after = covered_by after
+wide_at (Some r) after = choose (is_wide r) (Whole r) NotAllowed
 
 -- 4 bytes "at a multiple of 4" or 8 "at a multiple of 8", inside 0x0000 to 0x1fff; answer 1 for "any other shape"
 unfoldable pub access : ℕ → ℕ → Access

@@ -21,8 +21,8 @@ use Rattle.rules.specs.declared.Registers.{Registers}
 use Rattle.rules.specs.declared.Firsts.{Firsts}
 use Rattle.rules.specs.declared.FlowEntry.{FlowEntry}
 use Rattle.rules.specs.declared.Decoding.{Decoding}
-use Rattle.rules.specs.declared.Decoded.{Decoded}
-use Rattle.rules.specs.declared.Decoded.TheVariants.{Carry, Refused}
+use Rattle.std.specs.Prelude.{Result as Either, Ok as Carry, Err as Refused}
+use Rattle.rules.specs.declared.Command.{Command}
 use Rattle.rules.specs.declared.Device.{Device}
 use Rattle.rules.specs.declared.Request.{Request}
 use Rattle.rules.specs.declared.Request.TheVariants.{Read, Write as WriteTo, Link, Process, Frame, Header}
@@ -151,7 +151,7 @@ pub record Carried : Type 0 where
 -- By either engine (request 2026-05)
 module _ (engine : Engine) where
   -- a command that completed OK is followed
-  unfoldable pub followed : List FlowEntry → Decoded → Order → Order
+  unfoldable pub followed : List FlowEntry → Either Command Status → Order → Order
   followed flows (Carry c) o = engine.follows flows c o
   followed flows (Refused e) o = o
 

@@ -14,8 +14,7 @@ use Rattle.rules.specs.declared.Flow.{Flow}
 use Rattle.rules.specs.declared.Group.{Group}
 use Rattle.rules.specs.declared.Command.{Command}
 use Rattle.rules.specs.declared.Command.TheVariants.{FlowAdd, FlowMod, FlowDel, GroupAdd, GroupMod, GroupDel}
-use Rattle.rules.specs.declared.Decoded.{Decoded}
-use Rattle.rules.specs.declared.Decoded.TheVariants.{Carry, Refused}
+use Rattle.std.specs.Prelude.{Result, Ok as Carry, Err as Refused}
 use Rattle.rules.specs.declared.Decoding.{Decoding}
 use Rattle.rules.specs.declared.FlowEntry.{FlowEntry}
 use Rattle.rules.specs.declared.GroupEntry.{GroupEntry}
@@ -147,11 +146,11 @@ module _ (store : Store) where
   command_effect_in t (GroupMod g) m = with_groups t (replace id_of (group_entry g m) t.groups)
   command_effect_in t (GroupDel k) m = with_groups t (remove id_of k t.groups)
 
-  unfoldable pub decoded_status_in : Tables → Decoded → Status
+  unfoldable pub decoded_status_in : Tables → Result Command Status → Status
   decoded_status_in t (Carry c) = command_status_in t c
   decoded_status_in t (Refused e) = e
 
-  unfoldable pub decoded_effect_in : Tables → Decoded → List ℕ → Tables
+  unfoldable pub decoded_effect_in : Tables → Result Command Status → List ℕ → Tables
   decoded_effect_in t (Carry c) m = command_effect_in t c m
   decoded_effect_in t (Refused e) m = t
 
@@ -169,10 +168,10 @@ command_status t c = command_status_in by_cookie t c
 abbrev pub command_effect : Tables → Command → List ℕ → Tables
 command_effect t c m = command_effect_in by_cookie t c m
 
-abbrev pub decoded_status : Tables → Decoded → Status
+abbrev pub decoded_status : Tables → Result Command Status → Status
 decoded_status t w = decoded_status_in by_cookie t w
 
-abbrev pub decoded_effect : Tables → Decoded → List ℕ → Tables
+abbrev pub decoded_effect : Tables → Result Command Status → List ℕ → Tables
 decoded_effect t w m = decoded_effect_in by_cookie t w m
 
 abbrev pub carry_out : Tables → Decoding → Executed

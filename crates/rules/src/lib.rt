@@ -4,6 +4,27 @@
 
 // ---- Answer numbers and status codes
 
+// Why a call is refused. `refusal_number` in specs/Answers.antt gives the number of each; a call that is done answers 0.
+#[derive(Clone, Copy, Debug, PartialEq, Eq)]
+pub enum Refusal {
+    AccessNotAllowed = 1,
+    ValueNotAllowed = 2,
+    RingEmpty = 3,
+    CreditsFull = 4,
+    DescriptorOutside = 5,
+    BufferShort = 6,
+    PortNotAllowed = 7,
+    NotAFrame = 8,
+    ListShort = 9,
+    CutShort = 10,
+    BadMark = 11,
+    BadVersion = 12,
+    BadPortCount = 13,
+    RecordDisagrees = 14,
+    TooFewRecords = 15,
+    RoomShort = 16,
+}
+
 // What a call answers. `number` in specs/Answers.antt gives document 01's number of each.
 #[derive(Clone, Copy)]
 pub enum Answer {
@@ -27,16 +48,16 @@ pub enum Answer {
 }
 
 // How a command ended. `code` in specs/Answers.antt gives document 01's code of each.
-#[derive(Clone, Copy)]
+#[derive(Clone, Copy, Debug, PartialEq, Eq)]
 pub enum Status {
-    Ok,
-    Enoent,
-    Enxio,
-    Enomem,
-    Eexist,
-    Einval,
-    Emsgsize,
-    Enotsup,
+    Ok = 0,
+    Enoent = 2,
+    Enxio = 6,
+    Enomem = 12,
+    Eexist = 17,
+    Einval = 22,
+    Emsgsize = 90,
+    Enotsup = 95,
 }
 
 // ---- Limits, for code; specs/Limits.antt has them for the rules
@@ -88,7 +109,7 @@ pub type GroupMembers = [Members; MAX_GROUPS];
 pub const CURRENT_VERSION: u16 = 3;
 
 // What a journal's header tells, and what its payloads are carried out under: the port count and the version.
-#[derive(Clone, Copy)]
+#[derive(Clone, Copy, Debug, PartialEq, Eq)]
 pub struct Terms {
     pub ports: u32,
     pub version: u16,
@@ -97,7 +118,7 @@ pub struct Terms {
 // ---- Registers
 
 // A ring. `base_latch` is the latch (document 01: hold) of BASE_ADDR.
-#[derive(Clone, Copy)]
+#[derive(Clone, Copy, Debug, PartialEq, Eq)]
 pub struct Ring {
     pub base_addr: u64,
     pub base_latch: u32,
@@ -108,7 +129,7 @@ pub struct Ring {
 }
 
 // All that the device keeps besides its tables. `test_reg` and `test_reg64` are the last values written.
-#[derive(Clone, Copy)]
+#[derive(Clone, Copy, Debug, PartialEq, Eq)]
 pub struct Registers {
     pub switch_id: u64,
     pub links: u64,
@@ -122,7 +143,7 @@ pub struct Registers {
 }
 
 // The six registers that a ring has.
-#[derive(Clone, Copy)]
+#[derive(Clone, Copy, Debug, PartialEq, Eq)]
 pub enum RingRegister {
     BaseAddr,
     Size,
@@ -134,7 +155,7 @@ pub enum RingRegister {
 
 // The registers of document 01's list: the device's own eight, where Magic is each 8 bytes of 0x0000 to 0x000f, and a ring's six with
 // the ring's number.
-#[derive(Clone, Copy)]
+#[derive(Clone, Copy, Debug, PartialEq, Eq)]
 pub enum Register {
     Magic,
     TestReg,
@@ -147,15 +168,8 @@ pub enum Register {
     OfRing(u8, RingRegister),
 }
 
-// The register that starts at an offset, if one does.
-#[derive(Clone, Copy)]
-pub enum Located {
-    Nowhere,
-    Here(Register),
-}
-
 // What an access of some width at some offset reaches: a whole register, or half of one that has 8 bytes.
-#[derive(Clone, Copy)]
+#[derive(Clone, Copy, Debug, PartialEq, Eq)]
 pub enum Access {
     NotAllowed,
     Reserved,
@@ -167,7 +181,7 @@ pub enum Access {
 // ---- Descriptor
 
 // A descriptor's fields that are read.
-#[derive(Clone, Copy)]
+#[derive(Clone, Copy, Debug, PartialEq, Eq)]
 pub struct Descriptor {
     pub buf_addr: u64,
     pub buf_size: u32,
@@ -177,7 +191,7 @@ pub struct Descriptor {
 // ---- TLV regions and fields
 
 // One whole TLV of a region: its type, where its value starts, and how long that is.
-#[derive(Clone, Copy)]
+#[derive(Clone, Copy, Debug, PartialEq, Eq)]
 pub struct Tlv {
     pub kind: u32,
     pub start: usize,
@@ -185,7 +199,7 @@ pub struct Tlv {
 }
 
 // What stands at a position of a region: a whole TLV; the region's end; or a fault: bytes that are no whole TLV.
-#[derive(Clone, Copy)]
+#[derive(Clone, Copy, Debug, PartialEq, Eq)]
 pub enum Step {
     Next(Tlv),
     End,
@@ -193,7 +207,7 @@ pub enum Step {
 }
 
 // What a region holds of a type: nothing; one value, by start and length; or a fault: it comes twice or has another width.
-#[derive(Clone, Copy)]
+#[derive(Clone, Copy, Debug, PartialEq, Eq)]
 pub enum Found {
     Absent,
     At(usize, usize),
@@ -203,7 +217,7 @@ pub enum Found {
 // A row of the field table: a bit for each user that reads the field of this type in CMD_INFO and for each that requires it; its width there
 // (0: a nest), and the width of the member field of this type in GROUP_IDS (0: none). In this order it has no gaps, and a table of such rows
 // is stored many bytes at a time.
-#[derive(Clone, Copy)]
+#[derive(Clone, Copy, Debug, PartialEq, Eq)]
 pub struct FieldRule {
     pub uses: u16,
     pub needs: u16,
@@ -215,7 +229,7 @@ pub struct FieldRule {
 
 // What a flow compares, by its table: 0, 10, 20, 30, 50. An address of 32 bits stands in the upper bits of 128, and its mask is the number
 // of ones that it begins with (specs/Address.antt).
-#[derive(Clone, Copy)]
+#[derive(Clone, Copy, Debug, PartialEq, Eq)]
 pub enum Match {
     IngressPort {
         in_pport: u32,
@@ -249,7 +263,7 @@ pub enum Match {
     },
 }
 
-#[derive(Clone, Copy)]
+#[derive(Clone, Copy, Debug, PartialEq, Eq)]
 pub struct Flow {
     pub cookie: u64,
     pub priority: u32,
@@ -261,7 +275,7 @@ pub struct Flow {
 
 // A group without its members, which stand beside it: POP_VLAN of type 0; the VLAN and the two MACs of type 2, whose one member is its lower
 // group; GROUP_COUNT of types 3 and 4.
-#[derive(Clone, Copy)]
+#[derive(Clone, Copy, Debug, PartialEq, Eq)]
 pub struct Group {
     pub id: u32,
     pub pop_vlan: bool,
@@ -271,7 +285,7 @@ pub struct Group {
     pub dst_mac: u64,
 }
 
-#[derive(Clone, Copy)]
+#[derive(Clone, Copy, Debug, PartialEq, Eq)]
 pub enum Command {
     FlowAdd(Flow),
     FlowMod(Flow),
@@ -281,24 +295,17 @@ pub enum Command {
     GroupDel(u32),
 }
 
-// What a payload asks for, or the status that its first fault gives.
-#[derive(Clone, Copy)]
-pub enum Decoded {
-    Carry(Command),
-    Refused(Status),
-}
-
-// A decoding with the members of its group: their low 16 bits, those past the count 0.
+// What a payload asks for, or the status that its first fault gives; and the members of its group: their low 16 bits, those past the count 0.
 #[derive(Clone, Copy)]
 pub struct Decoding {
-    pub what: Decoded,
+    pub what: Result<Command, Status>,
     pub members: Members,
 }
 
 // ---- Tables
 
 // A stored flow. A field that its table does not have, or that was not given, is 0 and false.
-#[derive(Clone, Copy)]
+#[derive(Clone, Copy, Debug, PartialEq, Eq)]
 pub struct FlowEntry {
     pub cookie: u64,
     pub dst_mac: u64,
@@ -322,7 +329,7 @@ pub struct FlowEntry {
 
 // A stored group. A member has type 0 and the group's VLAN, so its low 16 bits say which it is; those past the count are 0.
 // OUT_PPORT of type 0 is the low 16 bits of the ID. A group of type 2 has its lower group as its one member. What a type does not have is 0.
-#[derive(Clone, Copy)]
+#[derive(Clone, Copy, Debug, PartialEq, Eq)]
 pub struct GroupEntry {
     pub id: u32,
     pub pop_vlan: bool,
@@ -334,7 +341,7 @@ pub struct GroupEntry {
 }
 
 // How many places of each table are live: those at the front of its array, in rising order of their key. The others are free.
-#[derive(Clone, Copy)]
+#[derive(Clone, Copy, Debug, PartialEq, Eq)]
 pub struct Counts {
     pub flows: usize,
     pub groups: usize,
@@ -344,7 +351,7 @@ pub struct Counts {
 pub type FlowOrder = [u8; MAX_FLOWS];
 
 // Where the flows of tables 10, 20, 30 and 50 begin in that order. Those of table 0 begin at 0.
-#[derive(Clone, Copy)]
+#[derive(Clone, Copy, Debug, PartialEq, Eq)]
 pub struct Firsts {
     pub vlan: usize,
     pub termination: usize,
@@ -354,7 +361,7 @@ pub struct Firsts {
 
 // The small part of a device. The places of its two tables, and the order of its flows, are arrays that whoever holds the device lends to a
 // call (specs/Rows.antt, specs/Switch.antt).
-#[derive(Clone, Copy)]
+#[derive(Clone, Copy, Debug, PartialEq, Eq)]
 pub struct Device {
     pub registers: Registers,
     pub counts: Counts,
@@ -365,7 +372,7 @@ pub struct Device {
 
 // A call on a device, its numbers as they were handed in: a port of 2^32 + 4 is not port 4. What it borrows (guest memory, frame,
 // journal buffer, list of outputs) stands beside it.
-#[derive(Clone, Copy)]
+#[derive(Clone, Copy, Debug, PartialEq, Eq)]
 pub enum Request {
     Read { offset: u64, width: u64 },
     Write { offset: u64, width: u64, value: u64 },

@@ -36,8 +36,7 @@ use Rattle.rules.specs.declared.Status.{Status}
 use Rattle.rules.specs.declared.Status.TheVariants.{Einval, Enotsup}
 use Rattle.rules.specs.declared.Command.{Command}
 use Rattle.rules.specs.declared.Command.TheVariants.{FlowAdd, FlowMod, FlowDel, GroupAdd, GroupMod, GroupDel}
-use Rattle.rules.specs.declared.Decoded.{Decoded}
-use Rattle.rules.specs.declared.Decoded.TheVariants.{Carry, Refused}
+use Rattle.std.specs.Prelude.{Result, Ok as Carry, Err as Refused}
 use Rattle.rules.specs.declared.Decoding.{Decoding}
 use Rattle.rules.specs.declared.GroupEntry.{GroupEntry}
 use Rattle.rules.proofs.Cases.{by_test, by_eq, and_left, and_right, not_both}
@@ -469,7 +468,7 @@ Stores terms m (GroupAdd g) = GroupAdmitted terms.ports (group_entry g m)
 Stores terms m (GroupMod g) = GroupAdmitted terms.ports (group_entry g m)
 Stores terms m (GroupDel k) = Unit
 
-abbrev StoresBy : Terms → List ℕ → Decoded → Type 0
+abbrev StoresBy : Terms → List ℕ → Result Command Status → Type 0
 StoresBy terms m (Carry c) = Stores terms m c
 StoresBy terms m (Refused e) = Unit
 
@@ -574,7 +573,7 @@ effect_admits terms t (GroupMod g) m a s =
 effect_admits terms t (GroupDel k) m a s =
     record { flows_are = a.flows_are; groups_are = each_remove id_of (GroupAdmitted terms.ports) k t.groups a.groups_are }
 
-decoded_admits : (terms : Terms) (t : Tables) (w : Decoded) (m : List ℕ) → Admitted terms.ports t → StoresBy terms m w → Admitted terms.ports (decoded_effect t w m)
+decoded_admits : (terms : Terms) (t : Tables) (w : Result Command Status) (m : List ℕ) → Admitted terms.ports t → StoresBy terms m w → Admitted terms.ports (decoded_effect t w m)
 unfolding decoded_effect_in
 decoded_admits terms t (Carry c) m a s = effect_admits terms t c m a s
 decoded_admits terms t (Refused e) m a s = a

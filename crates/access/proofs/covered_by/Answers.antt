@@ -2,10 +2,10 @@ use Rattle.rules.specs.Registers.{covered_by}
 use borrow.Author.Rules.{rules}
 use Rattle.access.proofs.covered_by.Goals as goal
 
-pub returns-in-Nowhere : goal.returns-in-Nowhere
+pub returns-in-None : goal.returns-in-None
 unfolding covered_by
-returns-in-Nowhere c = search rules
+returns-in-None c = search rules
 
-pub returns-in-Here : goal.returns-in-Here
+pub returns-in-Some : goal.returns-in-Some
 unfolding covered_by
-returns-in-Here c = search rules
+returns-in-Some c = search rules

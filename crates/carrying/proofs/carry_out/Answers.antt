@@ -3,8 +3,8 @@
 use Rattle.carrying.proofs.Carrying.{asked, faulty}
 use Rattle.carrying.proofs.carry_out.Goals as goal
 
-pub returns-in-Carry : goal.returns-in-Carry
-returns-in-Carry c = asked _ c.in-Carry.is c.command.ensures
+pub returns-in-Ok : goal.returns-in-Ok
+returns-in-Ok c = asked _ c.in-Ok.is c.command.ensures
 
-pub returns-in-Refused : goal.returns-in-Refused
-returns-in-Refused c = asked _ c.in-Refused.is (faulty _ _ _ _ _ _)
+pub returns-in-Err : goal.returns-in-Err
+returns-in-Err c = asked _ c.in-Err.is (faulty _ _ _ _ _ _)

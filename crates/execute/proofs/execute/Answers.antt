@@ -4,10 +4,10 @@ use Rattle.rules.specs.Tables.{carry_out_in, decoded_status_in, decoded_effect_i
 use Rattle.execute.proofs.Carried.{refused}
 use Rattle.execute.proofs.execute.Goals as goal
 
-pub returns-in-Carry : goal.returns-in-Carry
+pub returns-in-Ok : goal.returns-in-Ok
 unfolding carry_out_in decoded_status_in decoded_effect_in
-returns-in-Carry c = rw c.in-Carry.is c.command.ensures
+returns-in-Ok c = rw c.in-Ok.is c.command.ensures
 
-pub returns-in-Refused : goal.returns-in-Refused
+pub returns-in-Err : goal.returns-in-Err
 unfolding carry_out_in decoded_status_in decoded_effect_in
-returns-in-Refused c = rw c.in-Refused.is (refused _ _ _)
+returns-in-Err c = rw c.in-Err.is (refused _ _ _)
