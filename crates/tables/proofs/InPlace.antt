@@ -1,20 +1,21 @@
 -- What the ways out of a command give on a table that is lent, from what its search found among the rows: one law for each way out.
 -- The table t is of any type; its live entries are the first `count` rows, read as entries.
 -- Assumes nothing.
-use Prim.Native.Nat.{ℕ, ◌+◌, ◌-◌, ◌<◌, ◌≤◌}
+use Prim.Native.Nat.{ℕ, ◌+◌, ◌-◌, ◌<◌}
 use mathlib.Core.Bool.{Bool, true, false}
 use mathlib.Core.Path.{◌≡◌, ap, sym, ◌∙◌, subst}
 use mathlib.Core.List.{List, map}
-use lib.ListN.{take, set, length-map}
-use Rattle.rules.specs.Keyed.{holds, insert, replace, remove}
+use lib.ListN.{length, take, set, length-map}
+use Rattle.rules.specs.Keyed.{insert_at, without, holds, insert, replace, remove}
 use Rattle.rules.specs.Places.{places, live}
 use Rattle.rules.specs.Tables.{add_status, held_status}
-use Rattle.rules.specs.declared.Status.TheVariants.{Ok, Enoent, Enomem, Eexist}
+use Rattle.rules.specs.declared.Status.TheVariants.{Ok}
 use Rattle.rules.proofs.Mapped.{row_key, map_holds, map_position, map_insert, map_replace, map_remove}
-use Rattle.tables.specs.Commands.{Changed, Sought, Added, Modded, Deleted}
-use Rattle.tables.proofs.Slots.{Shifted}
-use Rattle.tables.proofs.Search.{inserted, replaced, removed}
-use Rattle.tables.proofs.Commands.{add_held, add_full, add_done, not_held, held_done}
+use Rattle.std.specs.Prelude.{Err}
+use Rattle.rules.specs.declared.Status.{Status}
+use Rattle.tables.specs.Commands.{Changed, Added, Modded, Deleted, place_of, free_place_of, held_place_of}
+use Rattle.tables.proofs.Search.{Sought, inserted, replaced, removed, free_fails, held_fails}
+use Rattle.tables.proofs.Commands.{refused, add_done, held_done}
 
 -- what was sought among the rows was sought among the entries, and the other way
 module _ {R A : Type 0} (read : R → A) (key : A → ℕ) {slots k n at : ℕ} {l : List R} {held : Bool} where
@@ -59,34 +60,44 @@ module _ {T R A : Type 0} (live_in : T → List A) (read : R → A) (key : A →
         ∙ ap (λ x. replace key x (map read (take count rows))) holds
         ∙ ap (replace key e) (sym is))
 
-    pub added : {t' : T} {i : ℕ} {shifted : List R} → live_in t' ≡ live read (places (n + 1) (set shifted i r)) → held ≡ false → n < slots
-        → Shifted slots at n n i rows shifted → i ≤ at → Added live_in key slots t e Ok t'
+    pub added : {t' : T} (rows' : List R) → live_in t' ≡ live read (places (n + 1) rows') → held ≡ false → n < slots
+        → take (n + 1) rows' ≡ insert_at at r (take n rows) → Added live_in key slots t e Ok t'
     unfolding live
-    added is' h f w b =
+    added rows' is' h f o =
         add_done live_in (seen s) h f
         (is'
-        ∙ ap (map read) (inserted (row_key read key) count r keyed w b)
+        ∙ ap (map read) (inserted (row_key read key) count rows rows' r keyed o)
         ∙ map_insert read key r (take count rows)
         ∙ ap (λ x. insert key x (map read (take count rows))) holds
         ∙ ap (insert key e) (sym is))
 
   module _ {k : ℕ} (s : Sought (row_key read key) slots k n (take count rows) at held) where
-    pub deleted : {t' : T} {i last : ℕ} {shifted : List R} → live_in t' ≡ live read (places last shifted) → held ≡ true → last ≡ n - 1
-        → Shifted slots at last at i rows shifted → last ≤ i → Deleted live_in key slots t k Ok t'
+    pub deleted : {t' : T} (rows' : List R) → live_in t' ≡ live read (places (n - 1) rows') → held ≡ true
+        → take (n - 1) rows' ≡ without at (take n rows) → Deleted live_in key slots t k Ok t'
     unfolding live
-    deleted is' h m w b =
+    deleted rows' is' h o =
         held_done live_in (seen s) h
         (is'
-        ∙ ap (map read) (removed (row_key read key) count s h m w b)
+        ∙ ap (map read) (removed (row_key read key) count (n - 1) rows rows' s h o)
         ∙ map_remove read key k (take count rows)
         ∙ ap (remove key k) (sym is))
 
-    module _ {effect : List A} where
-      pub absent : held ≡ false → Changed live_in t (held_status (holds key) k (live_in t)) effect Enoent t
-      absent h = not_held live_in (seen s) h
+-- the searches of a command that fail
+module _ {T R A : Type 0} (live_in : T → List A) (read : R → A) (key : A → ℕ) (slots : ℕ) (t : T) (count : ℕ) (rows : List R) (is : live_in t ≡ live read (places count rows)) (k : ℕ) {effect : List A} (e : Status) where
+  pub not_free : length rows ≡ slots → Err e ≡ free_place_of (row_key read key) (length rows) k (take count rows)
+      → Changed live_in t (add_status (holds key) slots k (live_in t)) effect e t
+  unfolding live place_of
+  not_free size f =
+      let m : Err e ≡ free_place_of key slots k (live_in t) =
+      rw (is, map_holds read key k (take count rows), map_position read key k (take count rows), length-map (take count rows) read) (rw size at f) in
+      let g = free_fails key slots k (live_in t) e m in
+      refused live_in e g.1 g.0
 
-      pub twice : held ≡ true → Changed live_in t (add_status (holds key) slots k (live_in t)) effect Eexist t
-      twice h = add_held live_in (seen s) h
-
-      pub full : held ≡ false → slots ≤ n → Changed live_in t (add_status (holds key) slots k (live_in t)) effect Enomem t
-      full h f = add_full live_in (seen s) h f
+  pub absent : Err e ≡ held_place_of (row_key read key) k (take count rows)
+      → Changed live_in t (held_status (holds key) k (live_in t)) effect e t
+  unfolding live place_of
+  absent f =
+      let m : Err e ≡ held_place_of key k (live_in t) =
+      rw (is, map_holds read key k (take count rows), map_position read key k (take count rows)) f in
+      let g = held_fails key k (live_in t) e m in
+      refused live_in e g.1 g.0

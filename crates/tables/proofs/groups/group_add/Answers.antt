@@ -1,49 +1,39 @@
--- As flow_add, on two arrays: what is found among the heads is found among the pairs (`found`), and these are shifted (`Shifting`).
+-- As flow_add, on two arrays: what is found among the heads is found among the pairs, and one place is opened in both.
 -- Assumes nothing.
-use mathlib.Core.Path.{refl}
-use lib.ListN.{take}
-use Rattle.rules.specs.Tables.{id_of}
+use mathlib.Core.Path.{refl, sym, ◌∙◌}
+use Rattle.std.proofs.lemmas.Result.{err_from_is_err_and}
 use Rattle.rules.specs.Rows.{group_in, beside}
+use Rattle.rules.specs.Tables.{id_of}
 use Rattle.rules.proofs.Mapped.{row_key}
-use Rattle.tables.specs.Commands.{Sought}
+use Rattle.rules.proofs.Rows.{length_beside}
 use Rattle.tables.specs.Groups.{groups_in}
-use Rattle.tables.proofs.Beside.{unshifted_both, shift_both_down, sought_beside, stored_group}
-use Rattle.tables.proofs.InPlace.{added, twice, full}
-use native.Mathlib.Omega.{arith}
+use Rattle.tables.proofs.Search.{free_sought}
+use Rattle.tables.proofs.Beside.{free_beside, opened_beside}
+use Rattle.tables.proofs.InPlace.{added, not_free}
 use Rattle.tables.proofs.groups.group_add.Goals as goal
-use Rattle.tables.proofs.groups.group_add.Goals.{After-group_find-p}
 
--- the search, among the groups
-found : (c : After-group_find-p)
-    → Sought (row_key group_in id_of) 128 c.args.g.id c.group_find-p.result.live (take c.args.count (beside c.args.heads.now c.args.members.now)) c.group_find-p.result.at c.group_find-p.result.held
-found c =
+pub returns-in_err-at : goal.returns-in_err-at
+unfolding groups_in
+returns-in_err-at c =
     let a = c.args in
-    let e = c.group_find-p.ensures in
-    sought_beside a.count a.heads.now a.members.now e.0 e.1 e.2
-
-pub returns-then-p : goal.returns-then-p
-unfolding groups_in
-returns-then-p c = twice groups_in group_in id_of 128 _ _ _ refl (found (goal.at.returns-then-p c).After-group_find-p) c.if-p.true
-
-pub returns-then-n-ge-MAX_GROUPS : goal.returns-then-n-ge-MAX_GROUPS
-unfolding groups_in
-returns-then-n-ge-MAX_GROUPS c = full groups_in group_in id_of 128 _ _ _ refl (found (goal.at.returns-then-n-ge-MAX_GROUPS c).After-group_find-p) c.if-p.false c.if-n-ge-MAX_GROUPS.true
-
-pub loop-i-init : goal.loop-i-init
-loop-i-init c =
-    let e = c.group_find-p.ensures in
-    unshifted_both e.0 e.1 e.2.within (omega arith) (omega arith)
-
-pub loop-i-preserved : goal.loop-i-preserved
-loop-i-preserved c = shift_both_down c.loop-i.invariant c.loop-i-test.true
+    let p = err_from_is_err_and c.from_residual.result c.from_residual.ensures.1 in
+    let hs = a.heads.now in
+    let ms = a.members.now in
+    let even = c.told-heads ∙ sym c.told-members in
+    rw (p.1, p.2)
+    (not_free groups_in group_in id_of 128 _ a.count (beside hs ms) refl a.g.id c.in_err-at.field-0.0
+    (length_beside hs ms even ∙ c.told-heads)
+    ((rw c.from.ensures at c.in_err-at.ensures.place) ∙ free_beside a.count a.g.id hs ms even))
 
 pub returns : goal.returns
 unfolding groups_in
 returns c =
     let a = c.args in
-    added groups_in group_in id_of 128 _ a.count _ refl _ c.head_of.ensures (found (goal.at.returns c).After-group_find-p)
-    (stored_group _ _ c.loop-i.heads c.loop-i.members _ _)
-    c.if-p.false
-    (omega arith)
-    c.loop-i.invariant.shifted
-    c.loop-i-test.false
+    let hs = a.heads.now in
+    let ms = a.members.now in
+    let even = c.told-heads ∙ sym c.told-members in
+    let s = free_sought (row_key group_in id_of) 128 a.g.id a.count (beside hs ms) (length_beside hs ms even ∙ c.told-heads) c.in_ok-at.at ((rw c.from.ensures at c.in_ok-at.ensures.place) ∙ free_beside a.count a.g.id hs ms even) in
+    rw c.min-live.ensures
+    (added groups_in group_in id_of 128 _ a.count (beside hs ms) refl (c.head_of.result, a.g.members) c.head_of.ensures s.0
+    (beside c.open.new.places c.open-2.new.places) refl refl s.1
+    (rw c.min-live.ensures at (opened_beside _ _ _ hs ms _ _ even _ _ c.open.ensures.0 c.open-2.ensures.0)))

@@ -1,45 +1,37 @@
--- As flow_del, on two arrays: what is found among the heads is found among the pairs (`found`), and these are shifted (`Shifting`).
+-- As flow_del, on two arrays: what is found among the heads is found among the pairs, and one place is closed in both.
 -- Assumes nothing.
-use mathlib.Core.Path.{refl}
-use lib.ListN.{take}
-use native.Mathlib.Omega.{arith}
-use Rattle.rules.specs.Tables.{id_of}
+use mathlib.Core.Path.{refl, sym, ◌∙◌}
+use Rattle.std.proofs.lemmas.Result.{err_from_is_err_and}
 use Rattle.rules.specs.Rows.{group_in, beside}
+use Rattle.rules.specs.Tables.{id_of}
 use Rattle.rules.proofs.Mapped.{row_key}
-use Rattle.tables.specs.Commands.{Sought}
+use Rattle.rules.proofs.Rows.{length_beside}
 use Rattle.tables.specs.Groups.{groups_in}
-use Rattle.tables.proofs.Search.{held_lt}
-use Rattle.tables.proofs.Beside.{unshifted_both, shift_both_up, sought_beside}
+use Rattle.tables.proofs.Search.{held_sought}
+use Rattle.tables.proofs.Beside.{held_beside, closed_beside}
 use Rattle.tables.proofs.InPlace.{deleted, absent}
 use Rattle.tables.proofs.groups.group_del.Goals as goal
-use Rattle.tables.proofs.groups.group_del.Goals.{After-group_find-p}
 
--- the search, among the groups
-found : (c : After-group_find-p)
-    → Sought (row_key group_in id_of) 128 c.args.id c.group_find-p.result.live (take c.args.count (beside c.args.heads.now c.args.members.now)) c.group_find-p.result.at c.group_find-p.result.held
-found c =
-    let a = c.args in
-    let e = c.group_find-p.ensures in
-    sought_beside a.count a.heads.now a.members.now e.0 e.1 e.2
-
-pub overflow_sub-last : goal.overflow_sub-last
-overflow_sub-last c = omega (arith, held_lt c.group_find-p.ensures.2 c.if-p.true)
-
-pub loop-i-init : goal.loop-i-init
-loop-i-init c =
-    let e = c.group_find-p.ensures in
-    let h = held_lt e.2 c.if-p.true in
-    unshifted_both e.0 e.1 (omega arith) (omega arith) (omega (arith, e.2.inside))
-
-pub loop-i-preserved : goal.loop-i-preserved
-loop-i-preserved c = shift_both_up c.loop-i.invariant c.loop-i-test.true
-
-pub returns-then-p : goal.returns-then-p
+pub returns-in_err-at : goal.returns-in_err-at
 unfolding groups_in
-returns-then-p c =
+returns-in_err-at c =
     let a = c.args in
-    deleted groups_in group_in id_of 128 _ a.count _ refl (found (goal.at.returns-then-p c).After-group_find-p) refl c.if-p.true refl c.loop-i.invariant.shifted c.loop-i-test.false
+    let p = err_from_is_err_and c.from_residual.result c.from_residual.ensures.1 in
+    let hs = a.heads.now in
+    let ms = a.members.now in
+    let even = c.told-heads ∙ sym c.told-members in
+    rw (p.1, p.2)
+    (absent groups_in group_in id_of 128 _ a.count (beside hs ms) refl a.id c.in_err-at.field-0.0
+    ((rw c.from.ensures at c.in_err-at.ensures.place) ∙ held_beside a.count a.id hs ms even))
 
 pub returns : goal.returns
 unfolding groups_in
-returns c = absent groups_in group_in id_of 128 _ _ _ refl (found (goal.at.returns c).After-group_find-p) c.if-p.false
+returns c =
+    let a = c.args in
+    let hs = a.heads.now in
+    let ms = a.members.now in
+    let even = c.told-heads ∙ sym c.told-members in
+    let s = held_sought (row_key group_in id_of) 128 a.id a.count (beside hs ms) (length_beside hs ms even ∙ c.told-heads) c.in_ok-at.at ((rw c.from.ensures at c.in_ok-at.ensures.place) ∙ held_beside a.count a.id hs ms even) in
+    rw c.min-live.ensures
+    (deleted groups_in group_in id_of 128 _ a.count (beside hs ms) refl s (beside c.close.new.places c.close-2.new.places) refl refl
+    (rw c.min-live.ensures at (closed_beside _ _ _ hs ms _ _ even c.close.ensures.0 c.close-2.ensures.0)))

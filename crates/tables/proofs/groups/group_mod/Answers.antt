@@ -1,34 +1,36 @@
 -- As flow_mod, on two arrays: what is found among the heads is found among the pairs.
 -- Assumes nothing.
-use mathlib.Core.Path.{refl}
+use mathlib.Core.Path.{refl, sym, ◌∙◌}
+use Rattle.std.proofs.lemmas.Result.{err_from_is_err_and}
+use Rattle.rules.specs.Rows.{group_in, beside}
 use Rattle.rules.specs.Tables.{id_of}
-use Rattle.rules.specs.Rows.{group_in}
+use Rattle.rules.proofs.Mapped.{row_key}
+use Rattle.rules.proofs.Rows.{length_beside}
 use Rattle.tables.specs.Groups.{groups_in}
-use Rattle.tables.proofs.Search.{held_lt}
-use Rattle.tables.proofs.Beside.{sought_beside, stored_group}
+use Rattle.tables.proofs.Search.{held_sought}
+use Rattle.tables.proofs.Beside.{held_beside, stored_group}
 use Rattle.tables.proofs.InPlace.{modded, absent}
-use native.Mathlib.Omega.{arith}
 use Rattle.tables.proofs.groups.group_mod.Goals as goal
 
-pub bounds-heads-at : goal.bounds-heads-at
-bounds-heads-at c = omega (arith, held_lt c.group_find-p.ensures.2 c.if-p.true)
-
-pub bounds-members-at : goal.bounds-members-at
-bounds-members-at c = omega (arith, held_lt c.group_find-p.ensures.2 c.if-p.true)
-
-pub returns-then-p : goal.returns-then-p
+pub returns-in_err-at : goal.returns-in_err-at
 unfolding groups_in
-returns-then-p c =
+returns-in_err-at c =
     let a = c.args in
-    let e = c.group_find-p.ensures in
-    modded groups_in group_in id_of 128 _ a.count _ refl _ c.head_of.ensures
-    (sought_beside a.count a.heads.now a.members.now e.0 e.1 e.2)
-    (stored_group a.count _ a.heads.now a.members.now _ _)
-    c.if-p.true
+    let p = err_from_is_err_and c.from_residual.result c.from_residual.ensures.1 in
+    let hs = a.heads.now in
+    let ms = a.members.now in
+    let even = c.told-heads ∙ sym c.told-members in
+    rw (p.1, p.2)
+    (absent groups_in group_in id_of 128 _ a.count (beside hs ms) refl a.g.id c.in_err-at.field-0.0
+    ((rw c.from.ensures at c.in_err-at.ensures.place) ∙ held_beside a.count a.g.id hs ms even))
 
 pub returns : goal.returns
 unfolding groups_in
 returns c =
     let a = c.args in
-    let e = c.group_find-p.ensures in
-    absent groups_in group_in id_of 128 _ _ _ refl (sought_beside a.count a.heads.now a.members.now e.0 e.1 e.2) c.if-p.false
+    let hs = a.heads.now in
+    let ms = a.members.now in
+    let even = c.told-heads ∙ sym c.told-members in
+    let s = held_sought (row_key group_in id_of) 128 a.g.id a.count (beside hs ms) (length_beside hs ms even ∙ c.told-heads) c.in_ok-at.at ((rw c.from.ensures at c.in_ok-at.ensures.place) ∙ held_beside a.count a.g.id hs ms even) in
+    modded groups_in group_in id_of 128 _ a.count (beside hs ms) refl (c.head_of.result, a.g.members) c.head_of.ensures s
+    (stored_group a.count c.in_ok-at.at hs ms _ _) refl
