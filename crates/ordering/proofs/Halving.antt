@@ -6,8 +6,7 @@ use mathlib.Core.Path.{◌≡◌, refl, ap, sym, ◌∙◌}
 use mathlib.Core.List.{List}
 use native.Mathlib.Omega.{arith}
 use borrow.Author.Tests.{lt-ltb, le-ltb}
-use lib.ListN.{length, take, get_or}
-use lib.Seq.{get_or-take, length-take-le}
+use lib.ListN.{length, get_or}
 use Rattle.rules.specs.Engine.{is_before, halved, slot_of}
 use Rattle.rules.specs.declared.FlowEntry.{FlowEntry}
 use Rattle.rules.proofs.Cases.{by_lt, by_test}
@@ -50,49 +49,34 @@ module _ (before : ℕ → Bool) where
 abbrev passes : List FlowEntry → List ℕ → FlowEntry → ℕ → Bool
 passes flows places e i = is_before flows e (get_or places i 0)
 
--- Among the first n slots of an order, the search for the slot of e has come to those from low up to high
-pub record Halving (flows : List FlowEntry) (order : List ℕ) (n : ℕ) (e : FlowEntry) (low high : ℕ) : Type 0 where
+-- In an order, the search for the slot of e has come to those from low up to high
+pub record Halving (flows : List FlowEntry) (order : List ℕ) (e : FlowEntry) (low high : ℕ) : Type 0 where
   pub rises : low ≤ high
-  pub inside : high ≤ n
-  pub long : n ≤ length order
-  pub rest : halved (passes flows (take n order) e) n 0 n ≡ halved (passes flows (take n order) e) (high - low) low high
+  pub inside : high ≤ length order
+  pub rest : halved (passes flows order e) (length order) 0 (length order) ≡ halved (passes flows order e) (high - low) low high
 
-module _ {flows : List FlowEntry} {order : List ℕ} {n : ℕ} {e : FlowEntry} where
-  pub begin : n ≤ length order → Halving flows order n e 0 n
-  begin l =
-      record {
-        rises = omega arith;
-        inside = omega arith;
-        long = l;
-        rest = ap (λ (m : ℕ). halved (passes flows (take n order) e) m 0 n) (omega arith);
-      }
+module _ {flows : List FlowEntry} {order : List ℕ} {e : FlowEntry} where
+  pub begin : Halving flows order e 0 (length order)
+  begin = record { rises = omega arith; inside = omega arith; rest = ap (λ (m : ℕ). halved (passes flows order e) m 0 (length order)) (omega arith) }
 
-  module _ {low high : ℕ} (s : Halving flows order n e low high) where
+  module _ {low high : ℕ} (s : Halving flows order e low high) where
     module _ {b : Bool} (h : low < high) (is : b ≡ is_before flows e (get_or order ((low + high) / 2) 0)) where
-      asked : passes flows (take n order) e ((low + high) / 2) ≡ b
-      asked = rw (get_or-take n order ((low + high) / 2) 0 (omega arith)) (sym is)
-
-      pub upper : b ≡ true → Halving flows order n e ((low + high) / 2 + 1) high
+      pub upper : b ≡ true → Halving flows order e ((low + high) / 2 + 1) high
       upper t =
           record {
             rises = omega arith;
             inside = s.inside;
-            long = s.long;
-            rest = s.rest ∙ to_upper (passes flows (take n order) e) (high - low) low high h (omega arith) (asked ∙ t);
+            rest = s.rest ∙ to_upper (passes flows order e) (high - low) low high h (omega arith) (sym is ∙ t);
           }
 
-      pub lower : b ≡ false → Halving flows order n e low ((low + high) / 2)
+      pub lower : b ≡ false → Halving flows order e low ((low + high) / 2)
       lower t =
           record {
             rises = omega arith;
             inside = omega arith;
-            long = s.long;
-            rest = s.rest ∙ to_lower (passes flows (take n order) e) (high - low) low high h (omega arith) (asked ∙ t);
+            rest = s.rest ∙ to_lower (passes flows order e) (high - low) low high h (omega arith) (sym is ∙ t);
           }
 
-    pub end : high ≤ low → (low ≡ slot_of flows (take n order) e) × (low ≤ n)
+    pub end : high ≤ low → (low ≡ slot_of flows order e) × (low ≤ length order)
     unfolding slot_of
-    end h = (
-      rw (length-take-le n order s.long, s.rest) (sym (at_end (passes flows (take n order) e) (high - low) low high h)),
-      omega arith,
-    )
+    end h = (rw s.rest (sym (at_end (passes flows order e) (high - low) low high h)), omega arith)

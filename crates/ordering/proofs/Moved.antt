@@ -1,11 +1,11 @@
 -- The numbers of places that move: those of the first so many slots are new, then all are.
 -- Assumes nothing.
 use Prim.Native.Nat.{ℕ, zero, suc, ◌+◌, ◌<◌, ◌≤◌}
-use mathlib.Core.Path.{◌≡◌, refl, ap, ◌∙◌}
+use mathlib.Core.Path.{◌≡◌, refl, ap}
 use mathlib.Core.List.{List, [], ◌∷◌, map}
 use native.Mathlib.Omega.{arith}
 use native.Mathlib.Numerals.{add-one}
-use lib.ListN.{length, take, get_or, set, length-set}
+use lib.ListN.{length, take, get_or, set}
 
 pub take_map : (f : ℕ → ℕ) (n : ℕ) (l : List ℕ) → take n (map f l) ≡ map f (take n l)
 take_map f zero [] = refl
@@ -14,7 +14,7 @@ take_map f (suc n) [] = refl
 take_map f (suc n) (x ∷ l) = ap {B = List ℕ} (λ r. f x ∷ r) (take_map f n l)
 
 -- the first i numbers by f
-abbrev first : (ℕ → ℕ) → ℕ → List ℕ → List ℕ
+abbrev pub first : (ℕ → ℕ) → ℕ → List ℕ → List ℕ
 first f zero l = l
 first f (suc i) [] = []
 first f (suc i) (x ∷ l) = f x ∷ first f i l
@@ -25,32 +25,11 @@ first_more f i [] h = absurd (omega arith)
 first_more f zero (x ∷ l) h = refl
 first_more f (suc i) (x ∷ l) h = ap {B = List ℕ} (λ r. f x ∷ r) (first_more f i l (omega arith))
 
-first_all : (f : ℕ → ℕ) (i : ℕ) (l : List ℕ) → length l ≤ i → first f i l ≡ map f l
+pub first_all : (f : ℕ → ℕ) (i : ℕ) (l : List ℕ) → length l ≤ i → first f i l ≡ map f l
 first_all f zero [] h = refl
 first_all f zero (x ∷ l) h = absurd (omega arith)
 first_all f (suc i) [] h = refl
 first_all f (suc i) (x ∷ l) h = ap {B = List ℕ} (λ r. f x ∷ r) (first_all f i l (omega arith))
 
--- Of an array of so many slots, l₀ at first, the numbers of the first i are new in l
-pub record Moved (f : ℕ → ℕ) (slots : ℕ) (l₀ : List ℕ) (i : ℕ) (l : List ℕ) : Type 0 where
-  pub within : i ≤ slots
-  pub size₀ : length l₀ ≡ slots
-  pub size : length l ≡ slots
-  pub is : l ≡ first f i l₀
-
-module _ {f : ℕ → ℕ} {slots : ℕ} {l₀ : List ℕ} where
-  pub begin : length l₀ ≡ slots → Moved f slots l₀ 0 l₀
-  begin z = record { within = omega arith; size₀ = z; size = z; is = refl }
-
-  module _ {i : ℕ} {l : List ℕ} (m : Moved f slots l₀ i l) where
-    pub more : {x : ℕ} → i < slots → x ≡ f (get_or l i 0) → Moved f slots l₀ (i + 1) (set l i x)
-    more {x} h e =
-        record {
-          within = omega arith;
-          size₀ = m.size₀;
-          size = length-set l i x ∙ m.size;
-          is = rw (add-one, e, m.is) (first_more f i l₀ (omega arith));
-        }
-
-    pub end : slots ≤ i → l ≡ map f l₀
-    end h = m.is ∙ first_all f i l₀ (omega arith)
+pub more : (f : ℕ → ℕ) (i : ℕ) (l₀ l : List ℕ) (x : ℕ) → l ≡ first f i l₀ → i < length l₀ → x ≡ f (get_or l i 0) → set l i x ≡ first f (i + 1) l₀
+more f i l₀ l x is h e = rw (add-one, e, is) (first_more f i l₀ h)

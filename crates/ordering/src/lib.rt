@@ -6,15 +6,15 @@
 ghost use Rattle.std.specs.Prelude.{◌+◌, ◌-◌, ◌<◌, ◌≤◌, map, ◌≡◌, length, take};
 ghost use Rattle.rules.specs.Limits.{max_flows};
 ghost use Rattle.rules.specs.Keyed.{insert_at, without};
-ghost use Rattle.rules.specs.Tables.{live_flows};
+ghost use Rattle.rules.specs.Rows.{entry_in};
 ghost use Rattle.rules.specs.Frame.{beats};
 ghost use Rattle.rules.specs.Engine.{precedes, is_before, slot_of, own_slot, raise, lower, later, earlier, firsts_with, firsts_without, same_rank};
 
-use rules::{Firsts, FlowEntry, FlowOrder, FlowRows, MAX_FLOWS};
+use rules::{Firsts, FlowEntry, FlowOrder, FlowRow, MAX_FLOWS};
 
 // ---- Which of two flows is first
 
-// A longer prefix, then a higher priority, then a lower cookie.
+/// A longer prefix, then a higher priority, then a lower cookie.
 pub fn beats(a: FlowEntry, b: FlowEntry) -> bool
     ensures { result ≡ beats a b }
 {
@@ -37,7 +37,7 @@ fn precedes(a: FlowEntry, b: FlowEntry) -> bool
     a.table < b.table
 }
 
-// Nothing that the order goes by differs.
+/// Nothing that the order goes by differs.
 pub fn same_rank(a: FlowEntry, b: FlowEntry) -> bool
     ensures { result ≡ same_rank a b }
 {
@@ -45,34 +45,25 @@ pub fn same_rank(a: FlowEntry, b: FlowEntry) -> bool
 }
 
 // Whether a place is live and its flow precedes another.
-fn is_before(rows: &FlowRows, live: usize, place: usize, e: FlowEntry) -> bool
-    requires { (length rows.now ≡ max_flows) × (live ≤ max_flows) }
-    ensures { result ≡ is_before (live_flows live rows.now) e place }
+fn is_before(flows: &[FlowRow], place: u8, e: FlowEntry) -> bool
+    ensures { result ≡ is_before (map entry_in flows.now) e place }
 {
-    if live <= place {
-        return false;
-    }
-    precedes(rows::entry_of(rows[place]), e)
+    let place = usize::from(place);
+    place < flows.len() && precedes(rows::entry_of(flows[place]), e)
 }
 
 // ---- Slots
 
-fn wide(x: u8) -> usize
-    ensures { result ≡ x }
+/// The slot of a flow in an order of live flows: behind those that precede it. The loop halves as the rules do, whatever the order is:
+/// `partition_point` asks that those in front precede the flow.
+pub fn slot(flows: &[FlowRow], order: &[u8], e: FlowEntry) -> usize
+    ensures { (result ≡ slot_of (map entry_in flows.now) order.now e) × (result ≤ length order.now) }
 {
-    x as usize
-}
-
-// The slot of a flow among the first n of the order, by halves: behind those that precede it.
-pub fn slot(rows: &FlowRows, live: usize, order: &FlowOrder, n: usize, e: FlowEntry) -> usize
-    requires { (length rows.now ≡ max_flows) × (length order.now ≡ max_flows) × (live ≤ max_flows) × (n ≤ max_flows) }
-    ensures { (result ≡ slot_of (live_flows live rows.now) (take n order.now) e) × (result ≤ n) }
-{
-    let mut low: usize = 0;
-    let mut high = n;
+    let mut low = 0;
+    let mut high = order.len();
     while low < high {
         let middle = (low + high) / 2;
-        if is_before(rows, live, wide(order[middle]), e) {
+        if is_before(flows, order[middle], e) {
             low = middle + 1;
         } else {
             high = middle;
@@ -82,42 +73,11 @@ pub fn slot(rows: &FlowRows, live: usize, order: &FlowOrder, n: usize, e: FlowEn
 }
 
 // The slot of the flow in a place.
-fn own_slot(rows: &FlowRows, order: &FlowOrder, n: usize, at: usize) -> usize
-    requires { (length rows.now ≡ max_flows) × (length order.now ≡ max_flows) × (at < n) × (n ≤ max_flows) }
-    ensures { (result ≡ own_slot (live_flows n rows.now) (take n order.now) at) × (result < n) }
+fn own_slot(flows: &[FlowRow], order: &[u8], at: usize) -> usize
+    requires { (at < length flows.now) × (length order.now ≡ length flows.now) }
+    ensures { (result ≡ own_slot (map entry_in flows.now) order.now at) × (result < length order.now) }
 {
-    let s = slot(rows, n, order, n, rows::entry_of(rows[at]));
-    if s < n { s } else { n - 1 }
-}
-
-// A place put into a slot, those from there on one further.
-fn open(order: &mut FlowOrder, n: usize, s: usize, place: u8)
-    requires { (length order.old ≡ max_flows) × (s ≤ n) × (n < max_flows) }
-    ensures { (take (n + 1) order.new ≡ insert_at s place (take n order.old)) × (length order.new ≡ max_flows) }
-{
-    let mut i = n;
-    while s < i {
-        let j = i - 1;
-        let x = order[j];
-        order[i] = x;
-        i = j;
-    }
-    order[i] = place;
-}
-
-// The slot closed: those behind it one nearer.
-fn close(order: &mut FlowOrder, n: usize, s: usize)
-    requires { (length order.old ≡ max_flows) × (s < n) × (n ≤ max_flows) }
-    ensures { (take (n - 1) order.new ≡ without s (take n order.old)) × (length order.new ≡ max_flows) }
-{
-    let last = n - 1;
-    let mut i = s;
-    while i < last {
-        let j = i + 1;
-        let x = order[j];
-        order[i] = x;
-        i = j;
-    }
+    slot(flows, order, rows::entry_of(flows[at])).min(order.len() - 1)
 }
 
 // ---- Places that move
@@ -136,59 +96,56 @@ fn lowered(at: u8, x: u8) -> u8
 
 // All places from one on are one higher. The loop goes over the whole array, so that it is done many bytes at a time.
 fn raise(order: &mut FlowOrder, at: u8)
-    requires { length order.old ≡ max_flows }
-    ensures { (order.new ≡ map (raise at) order.old) × (length order.new ≡ max_flows) }
+    ensures { order.new ≡ map (raise at) order.old }
 {
-    let mut i: usize = 0;
-    while i < MAX_FLOWS {
-        order[i] = raised(at, order[i]);
-        i += 1;
+    for place in order.iter_mut() {
+        *place = raised(at, *place);
     }
 }
 
 // All places behind one are one lower.
 fn lower(order: &mut FlowOrder, at: u8)
-    requires { length order.old ≡ max_flows }
     ensures { order.new ≡ map (lower at) order.old }
 {
-    let mut i: usize = 0;
-    while i < MAX_FLOWS {
-        order[i] = lowered(at, order[i]);
-        i += 1;
+    for place in order.iter_mut() {
+        *place = lowered(at, *place);
     }
 }
 
-// ---- What a command does to the order of n flows, before it does it to them
+// ---- What a command does to the order of the live flows, before it does it to them
 
-// A flow will be put in at a place.
-pub fn add(rows: &FlowRows, n: usize, order: &mut FlowOrder, at: usize, e: FlowEntry)
-    requires { (length rows.now ≡ max_flows) × (length order.old ≡ max_flows) × (at ≤ n) × (n < max_flows) }
-    ensures { take (n + 1) order.new ≡ insert_at (slot_of (live_flows n rows.now) (take n order.old) e) at (map (raise at) (take n order.old)) }
+/// A flow will be put in at a place.
+pub fn add(flows: &[FlowRow], order: &mut FlowOrder, at: usize, e: FlowEntry)
+    requires { (at ≤ length flows.now) × (length flows.now < max_flows) }
+    ensures { take (length flows.now + 1) order.new ≡ insert_at (slot_of (map entry_in flows.now) (take (length flows.now) order.old) e) at (map (raise at) (take (length flows.now) order.old)) }
 {
-    let s = slot(rows, n, order, n, e);
+    let live = flows.len();
+    let s = slot(flows, &order[..live], e);
     raise(order, at as u8);
-    open(order, n, s, at as u8);
+    tables::open(&mut order[..], live, s, at as u8);
 }
 
-// The one in a place will be taken out.
-pub fn remove(rows: &FlowRows, n: usize, order: &mut FlowOrder, at: usize)
-    requires { (length rows.now ≡ max_flows) × (length order.old ≡ max_flows) × (at < n) × (n ≤ max_flows) }
-    ensures { take (n - 1) order.new ≡ map (lower at) (without (own_slot (live_flows n rows.now) (take n order.old) at) (take n order.old)) }
+/// The one in a place will be taken out.
+pub fn remove(flows: &[FlowRow], order: &mut FlowOrder, at: usize)
+    requires { (at < length flows.now) × (length flows.now ≤ max_flows) }
+    ensures { take (length flows.now - 1) order.new ≡ map (lower at) (without (own_slot (map entry_in flows.now) (take (length flows.now) order.old) at) (take (length flows.now) order.old)) }
 {
-    let s = own_slot(rows, order, n, at);
-    close(order, n, s);
+    let live = flows.len();
+    let s = own_slot(flows, &order[..live], at);
+    tables::close(&mut order[..], live, s);
     lower(order, at as u8);
 }
 
-// The one in a place will be replaced by another, of another rank.
-pub fn change(rows: &FlowRows, n: usize, order: &mut FlowOrder, at: usize, e: FlowEntry)
-    requires { (length rows.now ≡ max_flows) × (length order.old ≡ max_flows) × (at < n) × (n ≤ max_flows) }
-    ensures { (take n order.new ≡ insert_at (slot_of (live_flows n rows.now) (without (own_slot (live_flows n rows.now) (take n order.old) at) (take n order.old)) e) at (without (own_slot (live_flows n rows.now) (take n order.old) at) (take n order.old))) × (length order.new ≡ max_flows) }
+/// The one in a place will be replaced by another, of another rank.
+pub fn change(flows: &[FlowRow], order: &mut FlowOrder, at: usize, e: FlowEntry)
+    requires { (at < length flows.now) × (length flows.now ≤ max_flows) }
+    ensures { take (length flows.now) order.new ≡ insert_at (slot_of (map entry_in flows.now) (without (own_slot (map entry_in flows.now) (take (length flows.now) order.old) at) (take (length flows.now) order.old)) e) at (without (own_slot (map entry_in flows.now) (take (length flows.now) order.old) at) (take (length flows.now) order.old)) }
 {
-    let own = own_slot(rows, order, n, at);
-    close(order, n, own);
-    let s = slot(rows, n, order, n - 1, e);
-    open(order, n - 1, s, at as u8);
+    let live = flows.len();
+    let own = own_slot(flows, &order[..live], at);
+    tables::close(&mut order[..], live, own);
+    let s = slot(flows, &order[..live - 1], e);
+    tables::open(&mut order[..], live - 1, s, at as u8);
 }
 
 // ---- Where tables begin
@@ -205,7 +162,7 @@ fn earlier(moves: bool, n: usize) -> usize
     if moves & (0 < n) { n - 1 } else { n }
 }
 
-// With one more flow of a table the later ones begin a slot later.
+/// With one more flow of a table the later ones begin a slot later.
 pub fn firsts_with(table: u16, f: Firsts) -> Firsts
     ensures { result ≡ firsts_with table f }
 {
@@ -217,7 +174,7 @@ pub fn firsts_with(table: u16, f: Firsts) -> Firsts
     }
 }
 
-// With one less, a slot earlier.
+/// With one less, a slot earlier.
 pub fn firsts_without(table: u16, f: Firsts) -> Firsts
     ensures { result ≡ firsts_without table f }
 {

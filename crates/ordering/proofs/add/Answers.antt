@@ -5,4 +5,4 @@ use Rattle.ordering.proofs.add.Goals as goal
 
 pub returns : goal.returns
 returns c =
-    rw (← c.slot-s.ensures.0, ← take_map, ← c.raise.ensures.0) c.«open».ensures.0
+    rw (← c.slot-s.ensures.0, ← take_map, ← c.raise.ensures) c.«open».ensures.0

@@ -2,11 +2,12 @@
 -- Assumes nothing.
 use Prim.Native.Nat.{◌+◌, ◌-◌}
 use mathlib.Core.Path.{◌≡◌}
+use lib.ListN.{length}
 use native.Mathlib.Omega.{arith}
 use Rattle.ordering.proofs.change.Goals as goal
 
 pub returns : goal.returns
 returns c =
-    let n = c.args.n in
+    let n = length c.args.flows.now in
     let e : n - 1 + 1 ≡ n = omega arith in
-    (rw (← c.own_slot-own.ensures.0, ← c.close.ensures.0, ← c.slot-s.ensures.0) (rw e at c.«open».ensures.0), c.«open».ensures.1)
+    rw (← c.own_slot-own.ensures.0, ← c.close.ensures.0, ← c.slot-s.ensures.0) (rw e at c.«open».ensures.0)

@@ -1,13 +1,13 @@
--- The numbers of the slots that the loop has passed are new (`Moved`).
+-- The numbers of the slots that the loop has passed are new.
 -- Assumes nothing.
-use Rattle.ordering.proofs.Moved.{begin, more, end}
+use mathlib.Core.Path.{◌∙◌}
+use native.Mathlib.Omega.{arith}
+use Rattle.ordering.proofs.Moved.{more, first_all}
+use Rattle.rules.specs.Engine.{raise}
 use Rattle.ordering.proofs.raise.Goals as goal
 
-pub loop-i-init : goal.loop-i-init
-loop-i-init c = begin c.requires
-
-pub loop-i-preserved : goal.loop-i-preserved
-loop-i-preserved c = more c.loop-i.invariant c.loop-i-test.true c.raised.ensures
+pub loop-place-preserved : goal.loop-place-preserved
+loop-place-preserved c = more (raise c.args.at) c.loop-place.place-index c.args.order.now c.loop-place.order c.raised.result c.loop-place.invariant (omega arith) c.raised.ensures
 
 pub returns : goal.returns
-returns c = (end c.loop-i.invariant c.loop-i-test.false, c.loop-i.invariant.size)
+returns c = c.loop-place.invariant ∙ first_all (raise c.args.at) c.loop-place.place-index c.args.order.now (omega arith)

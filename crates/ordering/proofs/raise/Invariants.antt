@@ -1,10 +1,7 @@
-use Prim.Native.Nat.{◌-◌}
+use mathlib.Core.Path.{◌≡◌}
 use Rattle.rules.specs.Engine.{raise}
-use Rattle.ordering.proofs.Moved.{Moved}
+use Rattle.ordering.proofs.Moved.{first}
 use Rattle.ordering.proofs.raise.Given as goal
 
-abbrev pub invariant-loop-i : goal.invariant-loop-i
-invariant-loop-i l = Moved (raise l.at) 256 l.initial.order l.i l.order
-
-abbrev pub decreases-loop-i : goal.decreases-loop-i
-decreases-loop-i l = 256 - l.i
+abbrev pub invariant-loop-place : goal.invariant-loop-place
+invariant-loop-place l = l.order ≡ first (raise l.at) l.place-index l.initial.order
