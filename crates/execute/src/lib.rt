@@ -1,4 +1,4 @@
-// A decoded payload carried out on the tables, where they stand: its status, and how many entries are live after it.
+// A decoded payload carried out on the tables, where they stand: how many entries are live after it, or its status.
 
 #![tactic(auto)]
 
@@ -12,14 +12,6 @@ use rules::{
     Command, Counts, Decoding, Flow, FlowEntry, FlowRows, Group, GroupEntry, GroupHeads,
     GroupMembers, Match, Members, Status,
 };
-use tables::Counted;
-
-// A payload's status, and how many places of each table are live after it.
-#[derive(Clone, Copy)]
-pub struct Executed {
-    pub status: Status,
-    pub counts: Counts,
-}
 
 // A stored flow with the fields that every table has, the others 0: table 0's with none of its own.
 fn common_entry(f: Flow) -> FlowEntry
@@ -130,7 +122,7 @@ fn bridging_entry(
     e
 }
 
-// A flow as it is stored: with the fields of its table.
+/// A flow as it is stored: with the fields of its table.
 pub fn flow_entry(f: Flow) -> FlowEntry
     ensures { result ≡ flow_entry f }
 {
@@ -183,35 +175,7 @@ fn group_entry(g: Group, members: Members) -> GroupEntry
     }
 }
 
-// A command of the flow table: the groups' count stays.
-fn of_flows(r: Counted, counts: Counts) -> Executed
-    ensures { result ≡ record { status = r.status; counts = record { flows = r.count; groups = counts.groups } } }
-{
-    let status = r.status;
-    Executed {
-        status: status,
-        counts: Counts {
-            flows: r.count,
-            groups: counts.groups,
-        },
-    }
-}
-
-// A command of the group table: the flows' count stays.
-fn of_groups(r: Counted, counts: Counts) -> Executed
-    ensures { result ≡ record { status = r.status; counts = record { flows = counts.flows; groups = r.count } } }
-{
-    let status = r.status;
-    Executed {
-        status: status,
-        counts: Counts {
-            flows: counts.flows,
-            groups: r.count,
-        },
-    }
-}
-
-// The commands of the group table.
+// The commands of the group table. Given back are the counts after it; an error leaves the tables.
 
 pub fn group_add(
     g: Group,
@@ -219,13 +183,11 @@ pub fn group_add(
     counts: Counts,
     heads: &mut GroupHeads,
     members: &mut GroupMembers,
-) -> Executed
+) -> Result<Counts, Status>
     ensures { OnGroups result counts heads.old members.old heads.new members.new (GroupAdd g) m }
 {
-    of_groups(
-        tables::group_add(heads, members, counts.groups, group_entry(g, m)),
-        counts,
-    )
+    let groups = tables::group_add(heads, members, counts.groups, group_entry(g, m))?;
+    Ok(Counts { groups, ..counts })
 }
 
 pub fn group_mod(
@@ -234,13 +196,11 @@ pub fn group_mod(
     counts: Counts,
     heads: &mut GroupHeads,
     members: &mut GroupMembers,
-) -> Executed
+) -> Result<Counts, Status>
     ensures { OnGroups result counts heads.old members.old heads.new members.new (GroupMod g) m }
 {
-    of_groups(
-        tables::group_mod(heads, members, counts.groups, group_entry(g, m)),
-        counts,
-    )
+    let groups = tables::group_mod(heads, members, counts.groups, group_entry(g, m))?;
+    Ok(Counts { groups, ..counts })
 }
 
 pub fn group_del(
@@ -248,10 +208,11 @@ pub fn group_del(
     counts: Counts,
     heads: &mut GroupHeads,
     members: &mut GroupMembers,
-) -> Executed
+) -> Result<Counts, Status>
     ensures { (m : List ℕ) → OnGroups result counts heads.old members.old heads.new members.new (GroupDel id) m }
 {
-    of_groups(tables::group_del(heads, members, counts.groups, id), counts)
+    let groups = tables::group_del(heads, members, counts.groups, id)?;
+    Ok(Counts { groups, ..counts })
 }
 
 // A command, on the one table that it is about.
@@ -262,42 +223,34 @@ fn command(
     flows: &mut FlowRows,
     heads: &mut GroupHeads,
     members: &mut GroupMembers,
-) -> Executed
+) -> Result<Counts, Status>
     ensures { Commands result counts (arrays flows.old heads.old members.old) (arrays flows.new heads.new members.new) c m }
 {
-    match c {
-        Command::FlowAdd(f) => {
-            of_flows(tables::flow_add(flows, counts.flows, flow_entry(f)), counts)
-        }
-        Command::FlowMod(f) => {
-            of_flows(tables::flow_mod(flows, counts.flows, flow_entry(f)), counts)
-        }
-        Command::FlowDel(cookie) => {
-            of_flows(tables::flow_del(flows, counts.flows, cookie), counts)
-        }
-        Command::GroupAdd(g) => group_add(g, m, counts, heads, members),
-        Command::GroupMod(g) => group_mod(g, m, counts, heads, members),
-        Command::GroupDel(id) => group_del(id, counts, heads, members),
-    }
+    let live = match c {
+        Command::FlowAdd(f) => tables::flow_add(flows, counts.flows, flow_entry(f))?,
+        Command::FlowMod(f) => tables::flow_mod(flows, counts.flows, flow_entry(f))?,
+        Command::FlowDel(cookie) => tables::flow_del(flows, counts.flows, cookie)?,
+        Command::GroupAdd(g) => return group_add(g, m, counts, heads, members),
+        Command::GroupMod(g) => return group_mod(g, m, counts, heads, members),
+        Command::GroupDel(id) => return group_del(id, counts, heads, members),
+    };
+    Ok(Counts {
+        flows: live,
+        ..counts
+    })
 }
 
-// What a payload asks for, or the status of its fault, which changes nothing.
+/// Carries out what a payload asks for, and gives the counts after it. An error is the status of the payload's fault or of the command,
+/// which changes nothing.
 pub fn execute(
     d: Decoding,
     counts: Counts,
     flows: &mut FlowRows,
     heads: &mut GroupHeads,
     members: &mut GroupMembers,
-) -> Executed
+) -> Result<Counts, Status>
     ensures { Executes result counts (arrays flows.old heads.old members.old) (arrays flows.new heads.new members.new) (carry_out (tables_of counts (arrays flows.old heads.old members.old)) d) }
 {
-    let what = d.what;
-    let m = d.members;
-    match what {
-        Ok(c) => command(c, m, counts, flows, heads, members),
-        Err(status) => Executed {
-            status: status,
-            counts: counts,
-        },
-    }
+    let c = d.what?;
+    command(c, d.members, counts, flows, heads, members)
 }

@@ -1,29 +1,32 @@
--- `execute::command` meets its contract: each arm is one law of Carried.
 -- One return a command: each is the law of its table, and the other table stays.
 -- Assumes nothing.
+use Rattle.std.proofs.lemmas.Result.{err_from_is_err_and}
 use Rattle.execute.proofs.Carried.{flow_added, flow_replaced, flow_removed}
 use Rattle.execute.proofs.command.Goals as goal
 
-pub returns-in-FlowAdd : goal.returns-in-FlowAdd
-returns-in-FlowAdd c =
-    rw (c.in-FlowAdd.is, c.of_flows.ensures)
-    (flow_added _ _ _ _ _ _ _ _ c.flow_entry.ensures c.flow_add.ensures)
+pub returns-in_ok-live-in-FlowAdd : goal.returns-in_ok-live-in-FlowAdd
+returns-in_ok-live-in-FlowAdd c = rw c.in-FlowAdd.is (flow_added _ _ _ _ _ _ _ _ c.flow_entry.ensures c.in_ok-live-in-FlowAdd.ensures)
 
-pub returns-in-FlowMod : goal.returns-in-FlowMod
-returns-in-FlowMod c =
-    rw (c.in-FlowMod.is, c.of_flows-in-FlowMod.ensures)
-    (flow_replaced _ _ _ _ _ _ _ _ c.flow_entry-in-FlowMod.ensures c.flow_mod.ensures)
+pub returns-in_err-live-in-FlowAdd : goal.returns-in_err-live-in-FlowAdd
+returns-in_err-live-in-FlowAdd c =
+    let p = err_from_is_err_and c.from_residual.result c.from_residual.ensures.1 in
+    rw (p.1, p.2, c.in-FlowAdd.is) (flow_added _ _ _ _ _ _ _ _ c.flow_entry.ensures c.in_err-live-in-FlowAdd.ensures)
 
-pub returns-in-FlowDel : goal.returns-in-FlowDel
-returns-in-FlowDel c =
-    rw (c.in-FlowDel.is, c.of_flows-in-FlowDel.ensures)
-    (flow_removed _ _ _ _ _ _ _ c.flow_del.ensures)
+pub returns-in_ok-live-in-FlowMod : goal.returns-in_ok-live-in-FlowMod
+returns-in_ok-live-in-FlowMod c = rw c.in-FlowMod.is (flow_replaced _ _ _ _ _ _ _ _ c.flow_entry-in-FlowMod.ensures c.in_ok-live-in-FlowMod.ensures)
 
-pub returns-in-GroupAdd : goal.returns-in-GroupAdd
-returns-in-GroupAdd c = rw c.in-GroupAdd.is (c.group_add.ensures.commands _)
+pub returns-in_err-live-in-FlowMod : goal.returns-in_err-live-in-FlowMod
+returns-in_err-live-in-FlowMod c =
+    let p = err_from_is_err_and c.from_residual-in_err-live-in-FlowMod.result c.from_residual-in_err-live-in-FlowMod.ensures.1 in
+    rw (p.1, p.2, c.in-FlowMod.is) (flow_replaced _ _ _ _ _ _ _ _ c.flow_entry-in-FlowMod.ensures c.in_err-live-in-FlowMod.ensures)
 
-pub returns-in-GroupMod : goal.returns-in-GroupMod
-returns-in-GroupMod c = rw c.in-GroupMod.is (c.group_mod.ensures.commands _)
+pub returns-in_ok-live-in-FlowDel : goal.returns-in_ok-live-in-FlowDel
+returns-in_ok-live-in-FlowDel c = rw c.in-FlowDel.is (flow_removed _ _ _ _ _ _ _ c.in_ok-live-in-FlowDel.ensures)
+
+pub returns-in_err-live-in-FlowDel : goal.returns-in_err-live-in-FlowDel
+returns-in_err-live-in-FlowDel c =
+    let p = err_from_is_err_and c.from_residual-in_err-live-in-FlowDel.result c.from_residual-in_err-live-in-FlowDel.ensures.1 in
+    rw (p.1, p.2, c.in-FlowDel.is) (flow_removed _ _ _ _ _ _ _ c.in_err-live-in-FlowDel.ensures)
 
 pub returns-in-GroupDel : goal.returns-in-GroupDel
 returns-in-GroupDel c = rw c.in-GroupDel.is ((c.group_del.ensures _).commands _)

@@ -1,13 +1,16 @@
 -- `execute::execute` meets its contract.
 -- Assumes nothing.
+use Rattle.std.proofs.lemmas.Result.{err_from_is_err_and}
 use Rattle.rules.specs.Tables.{carry_out_in, decoded_status_in, decoded_effect_in}
 use Rattle.execute.proofs.Carried.{refused}
 use Rattle.execute.proofs.execute.Goals as goal
 
-pub returns-in-Ok : goal.returns-in-Ok
+pub returns : goal.returns
 unfolding carry_out_in decoded_status_in decoded_effect_in
-returns-in-Ok c = rw c.in-Ok.is c.command.ensures
+returns c = rw c.in_ok-c.was c.command.ensures
 
-pub returns-in-Err : goal.returns-in-Err
+pub returns-in_err-c : goal.returns-in_err-c
 unfolding carry_out_in decoded_status_in decoded_effect_in
-returns-in-Err c = rw c.in-Err.is (refused _ _ _)
+returns-in_err-c c =
+    let p = err_from_is_err_and c.from_residual.result c.from_residual.ensures.1 in
+    rw (p.1, p.2, c.in_err-c.was) (refused _ _ _)

@@ -1,11 +1,16 @@
 -- What the table promises of the command, beside any flows.
 -- Assumes nothing.
 use mathlib.Core.Path.{refl}
+use Rattle.std.proofs.lemmas.Result.{err_from_is_err_and}
 use Rattle.rules.specs.Tables.{arrays}
 use Rattle.execute.proofs.Carried.{group_removed}
 use Rattle.execute.proofs.group_del.Goals as goal
 
 pub returns : goal.returns
-returns c =
-    rw c.of_groups.ensures
-    (λ m. record { flows_kept = refl; commands = λ flows. group_removed _ (arrays flows _ _) m _ _ _ _ _ c.group_del.ensures })
+returns c = λ m. record { flows_kept = refl; commands = λ flows. group_removed _ (arrays flows _ _) m _ _ _ _ _ c.in_ok-groups.ensures }
+
+pub returns-in_err-groups : goal.returns-in_err-groups
+returns-in_err-groups c =
+    let p = err_from_is_err_and c.from_residual.result c.from_residual.ensures.1 in
+    rw (p.1, p.2)
+    (λ m. record { flows_kept = refl; commands = λ flows. group_removed _ (arrays flows _ _) m _ _ _ _ _ c.in_err-groups.ensures })
