@@ -25,12 +25,10 @@ use Rattle.rules.specs.declared.Decoding.{Decoding}
 use Rattle.rules.proofs.Cases.{by_test}
 use Rattle.rules.proofs.Tables.{cookie_kept}
 use Rattle.tables.specs.Commands.{Added, Modded, Deleted}
-use Rattle.execute.specs.Outcome.{Commands, OnGroups}
-use Rattle.execute.specs.declared.Executed.{Executed}
-use Rattle.execute.proofs.Carried.{flow_added, flow_replaced, flow_removed, refused}
-use Rattle.carrying.specs.Outcome.{Follows, AddFollowed, ModFollowed, DelFollowed, Carries}
-use Rattle.carrying.specs.declared.Followed.{Followed}
-use Rattle.carrying.specs.declared.CarriedOut.{CarriedOut}
+use Rattle.execute.specs.Outcome.{OnGroups}
+use Rattle.tables.specs.Commands.{status_of, after_command}
+use Rattle.execute.proofs.Carried.{Commanded, flow_added, flow_replaced, flow_removed, refused}
+use Rattle.carrying.specs.Outcome.{Follows, AddFollowed, ModFollowed, DelFollowed, Carried}
 
 abbrev with_order : Arrays → List ℕ → Storage
 with_order a order = record { arrays = a; order = order }
@@ -40,17 +38,17 @@ decoding what m = record { what = what; members = m }
 
 -- ---- A command of the flow table
 
-module _ (counts : Counts) (firsts : Firsts) (a : Arrays) (m : List ℕ) (k : Followed) (rows : List (List ℕ)) (order order' : List ℕ) where
-  abbrev of_flows : CarriedOut
-  of_flows = record { status = k.status; counts = record { flows = k.count; groups = counts.groups }; firsts = k.firsts }
+module _ (counts : Counts) (firsts : Firsts) (a : Arrays) (m : List ℕ) (status : Status) (then : ℕ × Firsts) (rows : List (List ℕ)) (order order' : List ℕ) where
+  abbrev of_flows : Counts
+  of_flows = record { flows = then.0; groups = counts.groups }
 
   -- what a command on the flow table promises as a payload
   abbrev pub FlowsCarried : Command → Type 0
   FlowsCarried c =
-      Carries of_flows counts firsts (with_order a order) (with_order (arrays rows a.heads a.members) order') (decoding (Carry c) m)
+      Carried status (of_flows, then.1) counts firsts (with_order a order) (with_order (arrays rows a.heads a.members) order') (decoding (Carry c) m)
 
-  both : (c : Command) → Commands (record { status = k.status; counts = of_flows.counts }) counts a (arrays rows a.heads a.members) c m
-      → Follows k firsts order order' (command_status (tables_of counts a) c) (order_in counts.flows firsts order) (order_after (tables_of counts a).flows c (order_in counts.flows firsts order))
+  both : (c : Command) → Commanded status of_flows counts a (arrays rows a.heads a.members) c m
+      → Follows then firsts order order' (command_status (tables_of counts a) c) (order_in counts.flows firsts order) (order_after (tables_of counts a).flows c (order_in counts.flows firsts order))
       → FlowsCarried c
   unfolding carry_out_in decoded_status_in decoded_effect_in executed order_by followed
   both c x f =
@@ -66,27 +64,27 @@ module _ (counts : Counts) (firsts : Firsts) (a : Arrays) (m : List ℕ) (k : Fo
       }
 
   module _ (f : Flow) (e : FlowEntry) (is : e ≡ flow_entry f) where
-    pub flow_add : Added (live entry_in) cookie_of max_flows (places counts.flows a.flows) e k.status (places k.count rows)
-        → AddFollowed k firsts counts.flows a.flows order order' e → FlowsCarried (FlowAdd f)
+    pub flow_add : Added (live entry_in) cookie_of max_flows (places counts.flows a.flows) e status (places then.0 rows)
+        → AddFollowed then firsts counts.flows a.flows order order' e → FlowsCarried (FlowAdd f)
     unfolding command_status_in tables_of order_after flow_entry stored_flow
-    flow_add h o = both (FlowAdd f) (flow_added counts a m k.status k.count rows f e is h) (rw (is, cookie_kept f) at o)
+    flow_add h o = both (FlowAdd f) (flow_added counts a m status then.0 rows f e is h) (rw (is, cookie_kept f) at o)
 
-    pub flow_mod : Modded (live entry_in) cookie_of max_flows (places counts.flows a.flows) e k.status (places k.count rows)
-        → ModFollowed k firsts counts.flows a.flows order order' e → FlowsCarried (FlowMod f)
+    pub flow_mod : Modded (live entry_in) cookie_of max_flows (places counts.flows a.flows) e status (places then.0 rows)
+        → ModFollowed then firsts counts.flows a.flows order order' e → FlowsCarried (FlowMod f)
     unfolding command_status_in tables_of order_after flow_entry stored_flow
-    flow_mod h o = both (FlowMod f) (flow_replaced counts a m k.status k.count rows f e is h) (rw (is, cookie_kept f) at o)
+    flow_mod h o = both (FlowMod f) (flow_replaced counts a m status then.0 rows f e is h) (rw (is, cookie_kept f) at o)
 
-  pub flow_del : (cookie : ℕ) → Deleted (live entry_in) cookie_of max_flows (places counts.flows a.flows) cookie k.status (places k.count rows)
-      → DelFollowed k firsts counts.flows a.flows order order' cookie → FlowsCarried (FlowDel cookie)
+  pub flow_del : (cookie : ℕ) → Deleted (live entry_in) cookie_of max_flows (places counts.flows a.flows) cookie status (places then.0 rows)
+      → DelFollowed then firsts counts.flows a.flows order order' cookie → FlowsCarried (FlowDel cookie)
   unfolding command_status_in tables_of order_after
-  flow_del cookie h o = both (FlowDel cookie) (flow_removed counts a m k.status k.count rows cookie h) o
+  flow_del cookie h o = both (FlowDel cookie) (flow_removed counts a m status then.0 rows cookie h) o
 
 -- ---- A command of the group table
 
-module _ (counts : Counts) (firsts : Firsts) (flows heads members heads' members' : List (List ℕ)) (order m : List ℕ) (x : Executed) where
+module _ (counts : Counts) (firsts : Firsts) (flows heads members heads' members' : List (List ℕ)) (order m : List ℕ) (x : Result Counts Status) where
   abbrev pub GroupsCarried : Command → Type 0
   GroupsCarried c =
-      Carries (record { status = x.status; counts = x.counts; firsts = firsts }) counts firsts (with_order (arrays flows heads members) order) (with_order (arrays flows heads' members') order) (decoding (Carry c) m)
+      Carried (status_of x) (after_command counts x, firsts) counts firsts (with_order (arrays flows heads members) order) (with_order (arrays flows heads' members') order) (decoding (Carry c) m)
 
   alone : (c : Command) → ((l : List FlowEntry) (o : Order) → order_after l c o ≡ o) → OnGroups x counts heads members heads' members' c m → GroupsCarried c
   unfolding carry_out_in decoded_status_in decoded_effect_in executed order_by followed
@@ -118,7 +116,7 @@ module _ (counts : Counts) (firsts : Firsts) (flows heads members heads' members
 
 -- its fault changes nothing
 pub faulty : (counts : Counts) (firsts : Firsts) (a : Arrays) (order m : List ℕ) (e : Status)
-    → Carries (record { status = e; counts = counts; firsts = firsts }) counts firsts (with_order a order) (with_order a order) (decoding (Refused e) m)
+    → Carried e (counts, firsts) counts firsts (with_order a order) (with_order a order) (decoding (Refused e) m)
 unfolding carry_out_in decoded_status_in decoded_effect_in executed order_by followed
 faulty counts firsts a order m e =
     let x = refused counts a e in
@@ -130,7 +128,7 @@ faulty counts firsts a order m e =
     }
 
 -- by what it asks for
-pub asked : {r : CarriedOut} {counts : Counts} {firsts : Firsts} {s s' : Storage} {what : Result Command Status} (d : Decoding) → d.what ≡ what
-    → Carries r counts firsts s s' (decoding what d.members) → Carries r counts firsts s s' d
-asked {r} {counts} {firsts} {s} {s'} d e h =
-    subst (λ (w : Result Command Status). Carries r counts firsts s s' (decoding w d.members)) (sym e) h
+pub asked : {status : Status} {then : Counts × Firsts} {counts : Counts} {firsts : Firsts} {s s' : Storage} {what : Result Command Status} (d : Decoding) → d.what ≡ what
+    → Carried status then counts firsts s s' (decoding what d.members) → Carried status then counts firsts s s' d
+asked {status} {then} {counts} {firsts} {s} {s'} d e h =
+    subst (λ (w : Result Command Status). Carried status then counts firsts s s' (decoding w d.members)) (sym e) h

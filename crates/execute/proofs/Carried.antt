@@ -46,7 +46,7 @@ module _ (counts : Counts) (a : Arrays) {rule : Status} (status : Status) where
       }
 
 -- of a command, by its status and the counts then
-abbrev Commanded : Status → Counts → Counts → Arrays → Arrays → Command → List ℕ → Type 0
+abbrev pub Commanded : Status → Counts → Counts → Arrays → Arrays → Command → List ℕ → Type 0
 Commanded status then counts a a' c m =
     let t = tables_of counts a in
     Carried status then counts a a' (executed t (command_status t c) (command_effect t c m))

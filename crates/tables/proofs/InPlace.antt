@@ -7,6 +7,7 @@ use mathlib.Core.Path.{◌≡◌, ap, sym, ◌∙◌, subst}
 use mathlib.Core.List.{List, map}
 use lib.ListN.{length, take, set, length-map}
 use Rattle.rules.specs.Keyed.{insert_at, without, holds, insert, replace, remove}
+use Rattle.rules.specs.Answers.{code}
 use Rattle.rules.specs.Places.{places, live}
 use Rattle.rules.specs.Tables.{add_status, held_status}
 use Rattle.rules.specs.declared.Status.TheVariants.{Ok}
@@ -82,22 +83,29 @@ module _ {T R A : Type 0} (live_in : T → List A) (read : R → A) (key : A →
         ∙ map_remove read key k (take count rows)
         ∙ ap (remove key k) (sym is))
 
--- the searches of a command that fail
-module _ {T R A : Type 0} (live_in : T → List A) (read : R → A) (key : A → ℕ) (slots : ℕ) (t : T) (count : ℕ) (rows : List R) (is : live_in t ≡ live read (places count rows)) (k : ℕ) {effect : List A} (e : Status) where
-  pub not_free : length rows ≡ slots → Err e ≡ free_place_of (row_key read key) (length rows) k (take count rows)
-      → Changed live_in t (add_status (holds key) slots k (live_in t)) effect e t
+-- the searches of a command that fail: the error is the status that the rules give
+module _ {T R A : Type 0} (live_in : T → List A) (read : R → A) (key : A → ℕ) (slots : ℕ) (t : T) (count : ℕ) (rows : List R) (is : live_in t ≡ live read (places count rows)) (k : ℕ) (e : Status) where
+  pub free_status : length rows ≡ slots → Err e ≡ free_place_of (row_key read key) (length rows) k (take count rows)
+      → (e ≡ add_status (holds key) slots k (live_in t)) × (code e ≡ 0 → ⊥)
   unfolding live place_of
-  not_free size f =
+  free_status size f =
       let m : Err e ≡ free_place_of key slots k (live_in t) =
       rw (is, map_holds read key k (take count rows), map_position read key k (take count rows), length-map (take count rows) read) (rw size at f) in
-      let g = free_fails key slots k (live_in t) e m in
-      refused live_in e g.1 g.0
+      free_fails key slots k (live_in t) e m
 
-  pub absent : Err e ≡ held_place_of (row_key read key) k (take count rows)
-      → Changed live_in t (held_status (holds key) k (live_in t)) effect e t
+  pub held_status_is : Err e ≡ held_place_of (row_key read key) k (take count rows)
+      → (e ≡ held_status (holds key) k (live_in t)) × (code e ≡ 0 → ⊥)
   unfolding live place_of
-  absent f =
+  held_status_is f =
       let m : Err e ≡ held_place_of key k (live_in t) =
       rw (is, map_holds read key k (take count rows), map_position read key k (take count rows)) f in
-      let g = held_fails key k (live_in t) e m in
-      refused live_in e g.1 g.0
+      held_fails key k (live_in t) e m
+
+  module _ {effect : List A} where
+    pub not_free : length rows ≡ slots → Err e ≡ free_place_of (row_key read key) (length rows) k (take count rows)
+        → Changed live_in t (add_status (holds key) slots k (live_in t)) effect e t
+    not_free size f = let g = free_status size f in refused live_in e g.1 g.0
+
+    pub absent : Err e ≡ held_place_of (row_key read key) k (take count rows)
+        → Changed live_in t (held_status (holds key) k (live_in t)) effect e t
+    absent f = let g = held_status_is f in refused live_in e g.1 g.0

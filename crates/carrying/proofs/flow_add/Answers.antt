@@ -1,24 +1,33 @@
--- Each way out is a law of Following, and what the table promises of the command.
+-- The table's part is a law of InPlace, the order's one of Following.
 -- Assumes nothing.
 use mathlib.Core.Path.{refl}
-use lib.Dec.{leb}
-use borrow.Author.Tests.{leb-false}
-use Rattle.rules.proofs.Cases.{or_right}
-use Rattle.carrying.proofs.Following.{found, not_added, added}
+use Rattle.std.proofs.lemmas.Result.{err_from_is_err_and}
+use Rattle.rules.specs.Places.{live}
+use Rattle.rules.specs.Rows.{cookie_in, entry_in}
+use Rattle.rules.specs.Tables.{cookie_of}
+use Rattle.tables.proofs.Search.{free_sought}
+use Rattle.tables.proofs.InPlace.{added, not_free, free_status}
+use Rattle.carrying.proofs.Following as following
 use Rattle.carrying.proofs.flow_add.Goals as goal
 
-pub returns-then-p-n : goal.returns-then-p-n
-returns-then-p-n c =
-    let a = c.flow_add_at-c.ensures in
-    (a.0, not_added _ (found c.flow_find-p.ensures.0 c.requires c.flow_find-p.ensures.1) c.if-p-n.true a.0.status_is a.1 refl)
-
-pub put_in-more-requires : goal.put_in-more-requires
-put_in-more-requires c =
-    let p = c.flow_find-p.result in
-    let full = leb-false 256 p.live (or_right p.held (leb 256 p.live) c.if-p-n.false) in
-    (c.flow_find-p.ensures.0, c.requires, c.flow_find-p.ensures.1.within, full)
+pub returns-in_err-at : goal.returns-in_err-at
+unfolding entry_in
+returns-in_err-at c =
+    let a = c.args in
+    let e = c.in_err-at.field-0.0 in
+    let p = err_from_is_err_and c.from_residual.result c.from_residual.ensures.1 in
+    rw (p.1, p.2) (
+      not_free (live entry_in) entry_in cookie_of 256 _ a.count a.rows.now refl c.args.e.cookie e c.told-rows c.in_err-at.ensures.place,
+      following.refused e (free_status (live entry_in) entry_in cookie_of 256 _ a.count a.rows.now refl c.args.e.cookie e c.told-rows c.in_err-at.ensures.place),
+    )
 
 pub returns : goal.returns
+unfolding entry_in live
 returns c =
-    let a = c.flow_add_at-c-2.ensures in
-    (a.0, added _ (found c.flow_find-p.ensures.0 c.requires c.flow_find-p.ensures.1) c.if-p-n.false a.0.status_is a.1 c.put_in-more.ensures)
+    let a = c.args in
+    let s = free_sought cookie_in 256 c.args.e.cookie a.count a.rows.now c.told-rows c.in_ok-at.at c.in_ok-at.ensures.place in
+    let o = rw (c.live.ensures, ← s.0.live) at c.put_in-more.ensures in
+    rw c.min-live.ensures (
+      added (live entry_in) entry_in cookie_of 256 _ a.count a.rows.now refl c.row_of.result c.row_of.ensures s.0 c.open.new.places refl refl s.1 (rw c.min-live.ensures at c.open.ensures.0),
+      following.added a.e (following.found c.told-order s.0) s.1 o,
+    )

@@ -4,4 +4,4 @@ use Rattle.carrying.proofs.Ordering.{put_in}
 use Rattle.carrying.proofs.put_in.Goals as goal
 
 pub returns : goal.returns
-returns c = put_in _ _ _ _ _ _ _ _ c.add.ensures c.firsts_with.ensures
+returns c = put_in c.args.flows.now _ _ _ _ _ _ c.add.ensures c.firsts_with.ensures

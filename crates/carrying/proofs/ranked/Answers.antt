@@ -6,10 +6,8 @@ use Rattle.carrying.proofs.ranked.Goals as goal
 
 pub returns-then-same_rank : goal.returns-then-same_rank
 returns-then-same_rank c =
-    (same_rank_lem _ _ _ c.requires.2 c.entry_of-old.ensures _ _ _ (sym c.same_rank.ensures ∙ c.if-same_rank.true), c.requires.1)
+    same_rank_lem c.args.flows.now _ c.entry_of-old.ensures _ _ _ (sym c.same_rank.ensures ∙ c.if-same_rank.true)
 
 pub returns : goal.returns
-returns c = (
-  new_rank _ _ _ c.requires.2 c.entry_of-old.ensures _ _ _ _ _ (sym c.same_rank.ensures ∙ c.if-same_rank.false) c.change.ensures.0 c.firsts_without-without.ensures c.firsts_with.ensures,
-  c.change.ensures.1,
-)
+returns c =
+    new_rank c.args.flows.now _ c.entry_of-old.ensures _ _ _ _ _ (sym c.same_rank.ensures ∙ c.if-same_rank.false) c.change.ensures c.firsts_without-without.ensures c.firsts_with.ensures

@@ -4,5 +4,4 @@ use Rattle.carrying.proofs.Ordering.{taken_out}
 use Rattle.carrying.proofs.taken_out.Goals as goal
 
 pub returns : goal.returns
-returns c =
-    taken_out _ _ _ c.requires.2 c.entry_of-old.ensures _ _ _ _ c.remove.ensures c.firsts_without.ensures
+returns c = taken_out c.args.flows.now _ c.entry_of-old.ensures _ _ _ _ c.remove.ensures c.firsts_without.ensures
