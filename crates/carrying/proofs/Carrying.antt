@@ -26,7 +26,8 @@ use Rattle.rules.proofs.Cases.{by_test}
 use Rattle.rules.proofs.Tables.{cookie_kept}
 use Rattle.tables.specs.Commands.{Added, Modded, Deleted}
 use Rattle.execute.specs.Outcome.{OnGroups}
-use Rattle.tables.specs.Commands.{status_of, after_command}
+use Rattle.std.specs.Result.{result_unwrap_or}
+use Rattle.tables.specs.Commands.{status_of}
 use Rattle.execute.proofs.Carried.{Commanded, flow_added, flow_replaced, flow_removed, refused}
 use Rattle.carrying.specs.Outcome.{Follows, AddFollowed, ModFollowed, DelFollowed, Carried}
 
@@ -84,7 +85,7 @@ module _ (counts : Counts) (firsts : Firsts) (a : Arrays) (m : List ℕ) (status
 module _ (counts : Counts) (firsts : Firsts) (flows heads members heads' members' : List (List ℕ)) (order m : List ℕ) (x : Result Counts Status) where
   abbrev pub GroupsCarried : Command → Type 0
   GroupsCarried c =
-      Carried (status_of x) (after_command counts x, firsts) counts firsts (with_order (arrays flows heads members) order) (with_order (arrays flows heads' members') order) (decoding (Carry c) m)
+      Carried (status_of x) (result_unwrap_or x counts, firsts) counts firsts (with_order (arrays flows heads members) order) (with_order (arrays flows heads' members') order) (decoding (Carry c) m)
 
   alone : (c : Command) → ((l : List FlowEntry) (o : Order) → order_after l c o ≡ o) → OnGroups x counts heads members heads' members' c m → GroupsCarried c
   unfolding carry_out_in decoded_status_in decoded_effect_in executed order_by followed

@@ -13,7 +13,8 @@ use Rattle.rules.specs.declared.Firsts.{Firsts}
 use Rattle.rules.specs.declared.Status.{Status}
 use Rattle.rules.specs.declared.Status.TheVariants.{Ok}
 use Rattle.rules.specs.declared.Decoding.{Decoding}
-use Rattle.tables.specs.Commands.{status_of, after_command}
+use Rattle.std.specs.Result.{result_unwrap_or}
+use Rattle.tables.specs.Commands.{status_of}
 
 -- Of a flow command with this status, and the number of live flows and the first slots after it: the order, of as many flows as are then
 -- live, is what the rules make of the one before
@@ -52,4 +53,4 @@ pub record Carried (status : Status) (then : Counts × Firsts) (counts : Counts)
   pub kept : (status ≡ Ok → ⊥) → (then.0 ≡ counts) × (then.1 ≡ firsts) × (a' ≡ a)
 
 abbrev pub Carries : Result (Counts × Firsts) Status → Counts → Firsts → Storage → Storage → Decoding → Type 0
-Carries r counts firsts a a' d = Carried (status_of r) (after_command (counts, firsts) r) counts firsts a a' d
+Carries r counts firsts a a' d = Carried (status_of r) (result_unwrap_or r (counts, firsts)) counts firsts a a' d

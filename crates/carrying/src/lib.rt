@@ -10,7 +10,8 @@ ghost use Rattle.rules.specs.Rows.{entry_in};
 ghost use Rattle.rules.specs.Tables.{cookie_of};
 ghost use Rattle.rules.specs.Engine.{order_added, order_changed, order_deleted};
 ghost use Rattle.rules.specs.Switch.{storage, order_in};
-ghost use Rattle.tables.specs.Commands.{Added, Modded, Deleted, status_of, after_command};
+ghost use Rattle.std.specs.Result.{result_unwrap_or};
+ghost use Rattle.tables.specs.Commands.{Added, Modded, Deleted, status_of};
 ghost use Rattle.carrying.specs.Outcome.{AddFollowed, ModFollowed, DelFollowed, Carries};
 
 use rules::{
@@ -74,7 +75,7 @@ fn flow_add(
     firsts: Firsts,
     e: FlowEntry,
 ) -> Result<(usize, Firsts), Status>
-    ensures { Added (live entry_in) cookie_of max_flows (places count rows.old) e (status_of result) (places (after_command (count, firsts) result).0 rows.new) × AddFollowed (after_command (count, firsts) result) firsts count rows.old order.old order.new e }
+    ensures { Added (live entry_in) cookie_of max_flows (places count rows.old) e (status_of result) (places (result_unwrap_or result (count, firsts)).0 rows.new) × AddFollowed (result_unwrap_or result (count, firsts)) firsts count rows.old order.old order.new e }
 {
     let at = tables::free_place(&rows[..], count, e.cookie)?;
     let more = put_in(tables::live(&rows[..], count), order, at, firsts, e);
@@ -90,7 +91,7 @@ fn flow_mod(
     firsts: Firsts,
     e: FlowEntry,
 ) -> Result<(usize, Firsts), Status>
-    ensures { Modded (live entry_in) cookie_of max_flows (places count rows.old) e (status_of result) (places (after_command (count, firsts) result).0 rows.new) × ModFollowed (after_command (count, firsts) result) firsts count rows.old order.old order.new e }
+    ensures { Modded (live entry_in) cookie_of max_flows (places count rows.old) e (status_of result) (places (result_unwrap_or result (count, firsts)).0 rows.new) × ModFollowed (result_unwrap_or result (count, firsts)) firsts count rows.old order.old order.new e }
 {
     let at = tables::held_place(&rows[..], count, e.cookie)?;
     let moved = ranked(tables::live(&rows[..], count), order, at, firsts, e);
@@ -105,7 +106,7 @@ fn flow_del(
     firsts: Firsts,
     cookie: u64,
 ) -> Result<(usize, Firsts), Status>
-    ensures { Deleted (live entry_in) cookie_of max_flows (places count rows.old) cookie (status_of result) (places (after_command (count, firsts) result).0 rows.new) × DelFollowed (after_command (count, firsts) result) firsts count rows.old order.old order.new cookie }
+    ensures { Deleted (live entry_in) cookie_of max_flows (places count rows.old) cookie (status_of result) (places (result_unwrap_or result (count, firsts)).0 rows.new) × DelFollowed (result_unwrap_or result (count, firsts)) firsts count rows.old order.old order.new cookie }
 {
     let at = tables::held_place(&rows[..], count, cookie)?;
     let less = taken_out(tables::live(&rows[..], count), order, at, firsts);

@@ -24,11 +24,11 @@ use Rattle.rules.specs.declared.Device.{Device}
 use Rattle.rules.specs.declared.Request.TheVariants.{Process}
 use Rattle.rules.specs.declared.Registers.{Registers}
 use Rattle.rules.specs.declared.Terms.{Terms}
+use Rattle.rules.specs.declared.Status.{Status}
 use Rattle.rules.specs.declared.Status.TheVariants.{Ok}
 use Rattle.rules.proofs.Bytes.{splice_no_shorter}
 use Rattle.rules.proofs.Cases.{not_both}
-use Rattle.carrying.specs.Outcome.{Carries}
-use Rattle.carrying.specs.declared.CarriedOut.{CarriedOut}
+use Rattle.carrying.specs.Outcome.{Carried}
 use Rattle.slot.specs.Fetching.{payload_of}
 use Rattle.slot.specs.Taking.{Takes}
 use Rattle.slot.specs.Completing.{Prepares, Finishes}
@@ -73,41 +73,41 @@ module _ (d : Device) (a : Storage) (memory frame buffer list : List ℕ) where
         outcome_refused d a here Process r.answer refusal_is
         (λ z. not_both (sym (t.ready_is ∙ eq-eqb _ _ (refusal_is ∙ z)) ∙ n))
 
-    module _ (ready : r.ready ≡ true) (q : Decoding) (x : CarriedOut) (a' : Storage) (completed : ℕ) (between memory' buffer' : List ℕ)
+    module _ (ready : r.ready ≡ true) (q : Decoding) (status : Status) (live : Counts) (begins : Firsts) (a' : Storage) (completed : ℕ) (between memory' buffer' : List ℕ)
         (raises : Bool) (next : Registers)
         (p : Prepares q r.slot (terms_of d.registers) memory buffer between)
-        (e : Carries x d.counts d.firsts a a' q)
-        (f : Finishes completed r.at r.slot.size x.status (command_ring d.registers).tail memory memory' between buffer')
+        (e : Carried status (live, begins) d.counts d.firsts a a' q)
+        (f : Finishes completed r.at r.slot.size status (command_ring d.registers).tail memory memory' between buffer')
         (i : raises ≡ complete_raises (command_ring d.registers))
         (n : next ≡ choose (ltb (command_ring d.registers).credits max_credits) (with_command_ring d.registers (complete_effect (command_ring d.registers))) d.registers) where
       done : Completes (switch_of d a) here q r.slot.size completed memory' buffer'
       unfolding switch_of borrowed
-      done = completes (switch_of d a) here r.slot r.at (t.taken ready) q x.status completed between memory' buffer' p e.status_is f
+      done = completes (switch_of d a) here r.slot r.at (t.taken ready) q status completed between memory' buffer' p e.status_is f
 
       moved : next ≡ with_command_ring d.registers (complete_effect (command_ring d.registers))
       moved = n ∙ rw (lt-ltb _ _ (t.taken ready).uncredited)
 
       -- a status that is OK completes as such
-      ok_completes : x.status ≡ Ok → (process_effect (switch_of d a) here).told.completed ≡ completion Ok
+      ok_completes : status ≡ Ok → (process_effect (switch_of d a) here).told.completed ≡ completion Ok
       ok_completes o = sym done.completed_is ∙ (f.completed_is ∙ rw o)
 
       registers_are : next ≡ (process_effect (switch_of d a) here).switch.registers
       unfolding process_effect_by switch_of
       registers_are = moved
 
-      tables_are : tables_of x.counts a'.arrays ≡ (process_effect (switch_of d a) here).switch.tables
+      tables_are : tables_of live a'.arrays ≡ (process_effect (switch_of d a) here).switch.tables
       unfolding switch_of
       tables_are = e.tables_are ∙ done.tables_are
 
-      order_is : order_in x.counts.flows x.firsts a'.order ≡ (process_effect (switch_of d a) here).switch.order
+      order_is : order_in live.flows begins a'.order ≡ (process_effect (switch_of d a) here).switch.order
       unfolding switch_of
       order_is = e.order_is ∙ done.order_is
 
-      told_as : told_by (result x.counts x.firsts r.slot completed raises next) ≡ (process_effect (switch_of d a) here).told
+      told_as : told_by (result live begins r.slot completed raises next) ≡ (process_effect (switch_of d a) here).told
       unfolding result
       told_as = rw (done.completed_is, done.length_is, i) (unfold process_effect_by switch_of in refl)
 
-      effect_is : Outcome (result x.counts x.firsts r.slot completed raises next) d a a' memory' buffer' list (effect (switch_of d a) here Process)
+      effect_is : Outcome (result live begins r.slot completed raises next) d a a' memory' buffer' list (effect (switch_of d a) here Process)
       unfolding effect_by result number switch_of
       effect_is =
           record {
@@ -121,7 +121,7 @@ module _ (d : Device) (a : Storage) (memory frame buffer list : List ℕ) where
             places_kept = λ z. (e.kept (λ o. z (ok_completes o))).2;
           }
 
-      pub processed : Outcome (result x.counts x.firsts r.slot completed raises next) d a a' memory' buffer' list (step (switch_of d a) here Process)
+      pub processed : Outcome (result live begins r.slot completed raises next) d a a' memory' buffer' list (step (switch_of d a) here Process)
       processed =
           outcome_done d a here Process _ a' memory' buffer' list
           (sym refusal_is ∙ eqb-true _ _ (sym t.ready_is ∙ ready))

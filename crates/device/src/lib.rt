@@ -228,11 +228,10 @@ pub fn process(
     let counts = d.counts;
     let firsts = d.firsts;
     let x = carrying::carry_out(q, counts, firsts, flows, heads, members, order);
-    let status = x.status;
+    let status = tables::status(&x);
+    let (live, begins) = x.unwrap_or((counts, firsts));
     let completed = slot::finish(memory, buffer, t.at, s.size, status, ring.tail);
     let moved = registers::complete(regs);
-    let live = x.counts;
-    let begins = x.firsts;
     Called {
         answer: Answer::Done,
         value: 0,

@@ -5,7 +5,8 @@ use Rattle.rules.specs.declared.Counts.{Counts}
 use Rattle.rules.specs.declared.Command.{Command}
 use Rattle.rules.specs.declared.Status.TheVariants.{Ok}
 use Rattle.rules.specs.declared.Status.{Status}
-use Rattle.tables.specs.Commands.{status_of, after_command}
+use Rattle.std.specs.Result.{result_unwrap_or}
+use Rattle.tables.specs.Commands.{status_of}
 
 -- Of a payload on the tables that these counts and the arrays a hold: the rule's status, and its tables in the arrays a' under the counts
 -- then
@@ -16,7 +17,7 @@ pub record Carried (status : Status) (then counts : Counts) (a a' : Arrays) (rul
   pub kept : (rule.status ≡ Ok → ⊥) → (then ≡ counts) × (a' ≡ a)
 
 abbrev pub Executes : Result Counts Status → Counts → Arrays → Arrays → Rule → Type 0
-Executes r counts a a' rule = Carried (status_of r) (after_command counts r) counts a a' rule
+Executes r counts a a' rule = Carried (status_of r) (result_unwrap_or r counts) counts a a' rule
 
 -- the same of a command, with the members of its group
 abbrev pub Commands : Result Counts Status → Counts → Arrays → Arrays → Command → List ℕ → Type 0
@@ -25,5 +26,5 @@ Commands r counts a a' c m =
 
 -- Of a command on the group table: so it is whatever the flows are, and they stay
 pub record OnGroups (r : Result Counts Status) (counts : Counts) (heads members heads' members' : List (List ℕ)) (c : Command) (m : List ℕ) : Type 0 where
-  pub flows_kept : (after_command counts r).flows ≡ counts.flows
+  pub flows_kept : (result_unwrap_or r counts).flows ≡ counts.flows
   pub commands : (flows : List (List ℕ)) → Commands r counts (arrays flows heads members) (arrays flows heads' members') c m

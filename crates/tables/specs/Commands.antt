@@ -31,14 +31,10 @@ module _ {A : Type 0} (key : A → ℕ) where
 
 -- ---- What a command leaves
 
--- the status of a command's result, and what holds after it: what it gives, or what held before
+-- the status of a command's result
 abbrev pub status_of : {A : Type 0} → Result A Status → Status
 status_of (Ok a) = Fine
 status_of (Err e) = e
-
-abbrev pub after_command : {A : Type 0} → A → Result A Status → A
-after_command before (Ok a) = a
-after_command before (Err e) = before
 
 -- Of a command on the table t: `rule` is the status that the rules give it, `effect` what they make of the live entries at OK. What the
 -- free places hold after OK is left open: no rule reads them.

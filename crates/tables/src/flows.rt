@@ -2,7 +2,8 @@
 ghost use Rattle.rules.specs.Places.{places, live};
 ghost use Rattle.rules.specs.Rows.{cookie_in, entry_in};
 ghost use Rattle.rules.specs.Tables.{cookie_of};
-ghost use Rattle.tables.specs.Commands.{Added, Modded, Deleted, status_of, after_command};
+ghost use Rattle.std.specs.Result.{result_unwrap_or};
+ghost use Rattle.tables.specs.Commands.{Added, Modded, Deleted, status_of};
 ghost use Rattle.rules.specs.Limits.{max_flows};
 
 use crate::{Keyed, close, free_place, held_place, open};
@@ -18,7 +19,7 @@ impl Keyed for FlowRow {
 
 /// Puts a flow in before the first that has a higher cookie. Given back is the number of live flows after it; an error leaves the rows.
 pub fn flow_add(rows: &mut FlowRows, count: usize, e: FlowEntry) -> Result<usize, Status>
-    ensures { Added (live entry_in) cookie_of max_flows (places count rows.old) e (status_of result) (places (after_command count result) rows.new) }
+    ensures { Added (live entry_in) cookie_of max_flows (places count rows.old) e (status_of result) (places (result_unwrap_or result count) rows.new) }
 {
     let at = free_place(&rows[..], count, e.cookie)?;
     let live = count.min(MAX_FLOWS);
@@ -28,7 +29,7 @@ pub fn flow_add(rows: &mut FlowRows, count: usize, e: FlowEntry) -> Result<usize
 
 /// Replaces the flow with this cookie.
 pub fn flow_mod(rows: &mut FlowRows, count: usize, e: FlowEntry) -> Result<usize, Status>
-    ensures { Modded (live entry_in) cookie_of max_flows (places count rows.old) e (status_of result) (places (after_command count result) rows.new) }
+    ensures { Modded (live entry_in) cookie_of max_flows (places count rows.old) e (status_of result) (places (result_unwrap_or result count) rows.new) }
 {
     let at = held_place(&rows[..], count, e.cookie)?;
     rows[at] = rows::row_of(e);
@@ -37,7 +38,7 @@ pub fn flow_mod(rows: &mut FlowRows, count: usize, e: FlowEntry) -> Result<usize
 
 /// Takes the flow with a cookie out.
 pub fn flow_del(rows: &mut FlowRows, count: usize, cookie: u64) -> Result<usize, Status>
-    ensures { Deleted (live entry_in) cookie_of max_flows (places count rows.old) cookie (status_of result) (places (after_command count result) rows.new) }
+    ensures { Deleted (live entry_in) cookie_of max_flows (places count rows.old) cookie (status_of result) (places (result_unwrap_or result count) rows.new) }
 {
     let at = held_place(&rows[..], count, cookie)?;
     let live = count.min(MAX_FLOWS);

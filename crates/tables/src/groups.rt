@@ -1,7 +1,8 @@
 // The commands on the group table. A group stands in two arrays at one index: its head, and its 62 members, which are stored whole.
 ghost use Rattle.rules.specs.Rows.{id_in};
 ghost use Rattle.rules.specs.Tables.{id_of};
-ghost use Rattle.tables.specs.Commands.{Added, Modded, Deleted, status_of, after_command};
+ghost use Rattle.std.specs.Result.{result_unwrap_or};
+ghost use Rattle.tables.specs.Commands.{Added, Modded, Deleted, status_of};
 ghost use Rattle.tables.specs.Groups.{group_places, groups_in};
 ghost use Rattle.rules.specs.Limits.{max_groups};
 
@@ -23,7 +24,7 @@ pub fn group_add(
     count: usize,
     g: GroupEntry,
 ) -> Result<usize, Status>
-    ensures { Added groups_in id_of max_groups (group_places count heads.old members.old) g (status_of result) (group_places (after_command count result) heads.new members.new) }
+    ensures { Added groups_in id_of max_groups (group_places count heads.old members.old) g (status_of result) (group_places (result_unwrap_or result count) heads.new members.new) }
 {
     let at = free_place(&heads[..], count, u64::from(g.id))?;
     let live = count.min(MAX_GROUPS);
@@ -39,7 +40,7 @@ pub fn group_mod(
     count: usize,
     g: GroupEntry,
 ) -> Result<usize, Status>
-    ensures { Modded groups_in id_of max_groups (group_places count heads.old members.old) g (status_of result) (group_places (after_command count result) heads.new members.new) }
+    ensures { Modded groups_in id_of max_groups (group_places count heads.old members.old) g (status_of result) (group_places (result_unwrap_or result count) heads.new members.new) }
 {
     let at = held_place(&heads[..], count, u64::from(g.id))?;
     heads[at] = rows::head_of(g);
@@ -55,7 +56,7 @@ pub fn group_del(
     count: usize,
     id: u32,
 ) -> Result<usize, Status>
-    ensures { Deleted groups_in id_of max_groups (group_places count heads.old members.old) id (status_of result) (group_places (after_command count result) heads.new members.new) }
+    ensures { Deleted groups_in id_of max_groups (group_places count heads.old members.old) id (status_of result) (group_places (result_unwrap_or result count) heads.new members.new) }
 {
     let at = held_place(&heads[..], count, u64::from(id))?;
     let live = count.min(MAX_GROUPS);
