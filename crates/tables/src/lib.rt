@@ -13,9 +13,11 @@ use rules::{
 
 mod flows;
 mod groups;
+mod places;
 
 pub use flows::{flow_add, flow_add_at, flow_del, flow_del_at, flow_find, flow_mod, flow_mod_at};
 pub use groups::{group_add, group_del, group_find, group_mod};
+pub use places::Places;
 
 // Where a key belongs among the live entries, how many these are, and whether it stands there.
 #[derive(Clone, Copy)]
