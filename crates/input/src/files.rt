@@ -1,12 +1,12 @@
 // Files by name, what cannot be read on standard error, and what a replay prints.
 use either::{Either, Left, Right};
 use replaying::replay::Replayed;
-use rules::{FlowRows, GroupHeads, GroupMembers};
 use std::env::{Env, FillError};
 use std::fs::File;
 use std::io;
 use std::io::{ErrorKind, Write};
 use std::rt::Files;
+use tables::Places;
 
 // The system's numbers of two errors: what is missing, and a name that is too long.
 const INVALID_ARGUMENT: i32 = 22;
@@ -75,14 +75,8 @@ pub fn fail<E: Eprint>(rt: &E, path: &str, e: &io::Error) {
 }
 
 // The five lines of a replay, or the line that refuses.
-pub fn print_report<W: Write>(
-    out: &mut W,
-    q: Replayed,
-    flows: &FlowRows,
-    heads: &GroupHeads,
-    members: &GroupMembers,
-) -> io::Result<()> {
+pub fn print_report<W: Write>(out: &mut W, q: Replayed, places: &Places) -> io::Result<()> {
     let mut text = [0u8; 160];
-    let n = report::report(&mut text, q, flows, heads, members);
+    let n = report::report(&mut text, q, places);
     out.write_all(&text[..n])
 }

@@ -11,13 +11,11 @@ use input::reading::Progress;
 use input::{files, pieces, reading};
 use replaying::replay;
 use replaying::replay::Replayed;
-use rules::{
-    FLOW_WORDS, FlowRows, GroupHeads, GroupMembers, HEAD_WORDS, MAX_FLOWS, MAX_GROUPS, MAX_MEMBERS,
-};
 use std::fs::File;
 use std::io::{IsTerminal, Read, Write};
 use std::rt::Files;
 use std::{fs, io};
+use tables::Places;
 
 // What a file is written to while it grows, one after another.
 const GROWN: &str = "grown";
@@ -28,22 +26,13 @@ fn agrees_in_one_record<T: Files + Input + Eprint>(
     path: &str,
     whole: &[u8],
 ) -> io::Result<bool> {
-    let mut flows = [[0u32; FLOW_WORDS]; MAX_FLOWS];
-    let mut heads = [[0u32; HEAD_WORDS]; MAX_GROUPS];
-    let mut members = [[0u16; MAX_MEMBERS]; MAX_GROUPS];
+    let mut places = Places::new();
     let mut buffer = [0u8; replay::LONGEST];
     let mut from = files::open(to.rt, path)?;
-    let d = reading::drain(
-        to,
-        &mut from,
-        &mut buffer,
-        &mut flows,
-        &mut heads,
-        &mut members,
-    );
+    let d = reading::drain(to, &mut from, &mut buffer, &mut places);
     let q = d.result;
     let mut text = [0u8; 160];
-    let n = report::report(&mut text, q, &flows, &heads, &members);
+    let n = report::report(&mut text, q, &places);
     Ok(d.failure.is_none() & (&text[..n] == whole))
 }
 
@@ -61,9 +50,7 @@ fn grown<R: Read, W: Write, G: Read>(
     grown: &mut G,
     piece: &mut [u8],
     buffer: &mut [u8],
-    flows: &mut FlowRows,
-    heads: &mut GroupHeads,
-    members: &mut GroupMembers,
+    places: &mut Places,
 ) -> Replayed
     requires { longest ≤ length buffer.old }
 {
@@ -73,12 +60,12 @@ fn grown<R: Read, W: Write, G: Read>(
     while 0 < turns {
         append(from, to, piece);
         let f = pieces::fill(grown, buffer, kept);
-        let t = reading::turn(f, buffer, r, flows, heads, members);
+        let t = reading::turn(f, buffer, r, places);
         r = t.replay;
         kept = t.kept;
         turns = if t.goes_on { turns - 1 } else { 0 };
     }
-    replay::finish(r, &buffer[..kept], flows, heads, members)
+    replay::finish(r, &buffer[..kept], places)
 }
 
 // Whether the file gives the same text where it comes in pieces of so many bytes.
@@ -91,9 +78,7 @@ fn agrees_in_pieces<T: Files>(
     let mut from = File::open(rt, path)?;
     let mut to = File::create_new(rt, GROWN)?;
     let mut file = File::open(rt, GROWN)?;
-    let mut flows = [[0u32; FLOW_WORDS]; MAX_FLOWS];
-    let mut heads = [[0u32; HEAD_WORDS]; MAX_GROUPS];
-    let mut members = [[0u16; MAX_MEMBERS]; MAX_GROUPS];
+    let mut places = Places::new();
     let mut buffer = [0u8; 65536];
     let q = grown(
         &mut from,
@@ -101,12 +86,10 @@ fn agrees_in_pieces<T: Files>(
         &mut file,
         piece,
         &mut buffer,
-        &mut flows,
-        &mut heads,
-        &mut members,
+        &mut places,
     );
     let mut text = [0u8; 160];
-    let n = report::report(&mut text, q, &flows, &heads, &members);
+    let n = report::report(&mut text, q, &places);
     fs::remove_file(rt, GROWN)?;
     Ok(&text[..n] == whole)
 }
@@ -138,10 +121,8 @@ fn print<T: Files + Input + Eprint, W: Write>(
     out: &mut W,
     path: &str,
 ) -> io::Result<()> {
-    let mut flows = [[0u32; FLOW_WORDS]; MAX_FLOWS];
-    let mut heads = [[0u32; HEAD_WORDS]; MAX_GROUPS];
-    let mut members = [[0u16; MAX_MEMBERS]; MAX_GROUPS];
-    let d = reading::replay_file(to, path, &mut flows, &mut heads, &mut members);
+    let mut places = Places::new();
+    let d = reading::replay_file(to, path, &mut places);
     out.write_all(path.as_bytes())?;
     if d.failure.is_some() {
         return out.write_all(b"\ncannot be read\n");
@@ -149,7 +130,7 @@ fn print<T: Files + Input + Eprint, W: Write>(
     out.write_all(b"\n")?;
     let q = d.result;
     let mut text = [0u8; 160];
-    let n = report::report(&mut text, q, &flows, &heads, &members);
+    let n = report::report(&mut text, q, &places);
     out.write_all(&text[..n])?;
     compare(to, out, path, &text[..n])
 }

@@ -5,13 +5,15 @@
 
 ghost use Rattle.std.specs.Prelude.{◌≡◌, ◌≤◌, ◌<◌, length};
 ghost use Rattle.rules.specs.Keyed.{Rising};
-ghost use Rattle.rules.specs.Tables.{cookie_of, id_of, arrays, tables_of, live_flows, live_groups};
+ghost use Rattle.rules.specs.Tables.{cookie_of, id_of, tables_of, live_flows, live_groups};
 ghost use Rattle.rules.specs.Undo.{flow_payload, group_payload, flow_run, group_run, payloads};
+ghost use Rattle.tables.specs.Arrays.{arrays_of};
 ghost use Rattle.encoding.specs.Writing.{longest};
 ghost use Rattle.listing.specs.Listing.{large, half, quarter, nothing_listed, Small, Below, Adds, Lists, Steps, InOrder, both_runs, given_back};
 
 use encoding::LONGEST;
-use rules::{Counts, FlowEntry, FlowRows, GroupEntry, GroupHeads, GroupMembers};
+use rules::{Counts, FlowEntry, GroupEntry};
+use tables::Places;
 
 // A list so far: how many payloads, and how many bytes with their lengths.
 #[derive(Clone, Copy)]
@@ -76,15 +78,15 @@ fn flow_step(
     key: u64,
     command: u16,
     there: bool,
-    rows: &FlowRows,
-    count: usize,
-    other: &FlowRows,
-    other_count: usize,
+    counts: Counts,
+    places: &Places,
+    other_counts: Counts,
+    other: &Places,
 ) -> Step
     requires { (so_far.size ≤ large) × (so_far.count ≤ large) }
-    ensures { Steps cookie_of (flow_run command there (live_flows other_count other.now)) (live_flows count rows.now) result so_far started key out.new out.old }
+    ensures { Steps cookie_of (flow_run command there (live_flows other_counts.flows other.now.flows)) (live_flows counts.flows places.now.flows) result so_far started key out.new out.old }
 {
-    let p = picking::flow_after(rows, count, started, key);
+    let p = picking::flow_after(&places.flows, counts.flows, started, key);
     let at = p.at;
     if p.live <= at {
         return Step {
@@ -93,9 +95,9 @@ fn flow_step(
             key: key,
         };
     }
-    let e = rows::entry_of(rows[at]);
+    let e = rows::entry_of(places.flows[at]);
     let mut listed = so_far;
-    if picking::picks_flow(there, e, other, other_count) {
+    if picking::picks_flow(there, e, &other.flows, other_counts.flows) {
         listed = add_flow(out, so_far, command, e);
     }
     Step {
@@ -112,15 +114,15 @@ fn flows(
     so_far: Listed,
     command: u16,
     there: bool,
-    rows: &FlowRows,
-    count: usize,
-    other: &FlowRows,
-    other_count: usize,
+    counts: Counts,
+    places: &Places,
+    other_counts: Counts,
+    other: &Places,
 ) -> Listed
-    requires { (Rising cookie_of (live_flows count rows.now)) × Small so_far }
-    ensures { Lists result so_far out.new (flow_run command there (live_flows other_count other.now) (live_flows count rows.now)) 256 out.old }
+    requires { (Rising cookie_of (live_flows counts.flows places.now.flows)) × Small so_far }
+    ensures { Lists result so_far out.new (flow_run command there (live_flows other_counts.flows other.now.flows) (live_flows counts.flows places.now.flows)) 256 out.old }
 {
-    let all = &rows[..];
+    let all = &places.flows[..];
     let mut listed = so_far;
     let mut started = false;
     let mut key: u64 = 0;
@@ -133,10 +135,10 @@ fn flows(
             key,
             command,
             there,
-            rows,
-            count,
+            counts,
+            places,
+            other_counts,
             other,
-            other_count,
         );
         started = true;
         listed = t.listed;
@@ -154,18 +156,22 @@ fn group_step(
     key: u64,
     command: u16,
     there: bool,
-    heads: &GroupHeads,
-    members: &GroupMembers,
-    count: usize,
-    other_heads: &GroupHeads,
-    other_members: &GroupMembers,
-    other_count: usize,
+    counts: Counts,
+    places: &Places,
+    other_counts: Counts,
+    other: &Places,
 ) -> Step
     requires { (so_far.size ≤ large) × (so_far.count ≤ large) × (key < 4294967296) }
-    ensures steps { Steps id_of (group_run command there (live_groups other_count other_heads.now other_members.now)) (live_groups count heads.now members.now) result so_far started key out.new out.old }
+    ensures steps { Steps id_of (group_run command there (live_groups other_counts.groups other.now.heads other.now.members)) (live_groups counts.groups places.now.heads places.now.members) result so_far started key out.new out.old }
     ensures key_bound { result.key < 4294967296 }
 {
-    let p = picking::group_after(heads, members, count, started, key as u32);
+    let p = picking::group_after(
+        &places.heads,
+        &places.members,
+        counts.groups,
+        started,
+        key as u32,
+    );
     let at = p.at;
     if p.live <= at {
         return Step {
@@ -174,10 +180,10 @@ fn group_step(
             key: key,
         };
     }
-    let e = rows::group_of(heads[at], members[at]);
+    let e = rows::group_of(places.heads[at], places.members[at]);
     let id = e.id as u64;
     let mut listed = so_far;
-    if picking::picks_group(there, e, other_heads, other_members, other_count) {
+    if picking::picks_group(there, e, &other.heads, &other.members, other_counts.groups) {
         listed = add_group(out, so_far, command, e);
     }
     Step {
@@ -193,17 +199,15 @@ fn groups(
     so_far: Listed,
     command: u16,
     there: bool,
-    heads: &GroupHeads,
-    members: &GroupMembers,
-    count: usize,
-    other_heads: &GroupHeads,
-    other_members: &GroupMembers,
-    other_count: usize,
+    counts: Counts,
+    places: &Places,
+    other_counts: Counts,
+    other: &Places,
 ) -> Listed
-    requires { (Rising id_of (live_groups count heads.now members.now)) × Small so_far }
-    ensures { Lists result so_far out.new (group_run command there (live_groups other_count other_heads.now other_members.now) (live_groups count heads.now members.now)) 128 out.old }
+    requires { (Rising id_of (live_groups counts.groups places.now.heads places.now.members)) × Small so_far }
+    ensures { Lists result so_far out.new (group_run command there (live_groups other_counts.groups other.now.heads other.now.members) (live_groups counts.groups places.now.heads places.now.members)) 128 out.old }
 {
-    let all = &heads[..];
+    let all = &places.heads[..];
     let mut listed = so_far;
     let mut started = false;
     let mut key: u64 = 0;
@@ -216,12 +220,10 @@ fn groups(
             key,
             command,
             there,
-            heads,
-            members,
-            count,
-            other_heads,
-            other_members,
-            other_count,
+            counts,
+            places,
+            other_counts,
+            other,
         );
         started = true;
         listed = t.listed;
@@ -241,42 +243,32 @@ fn both(
     group_command: u16,
     there: bool,
     counts: Counts,
-    flow_rows: &FlowRows,
-    heads: &GroupHeads,
-    members: &GroupMembers,
-    other: Counts,
-    other_flows: &FlowRows,
-    other_heads: &GroupHeads,
-    other_members: &GroupMembers,
+    places: &Places,
+    other_counts: Counts,
+    other: &Places,
 ) -> Listed
-    requires { (InOrder (tables_of counts (arrays flow_rows.now heads.now members.now))) × Below half so_far }
-    ensures { Lists result so_far out.new (both_runs flow_command group_command there (tables_of other (arrays other_flows.now other_heads.now other_members.now)) (tables_of counts (arrays flow_rows.now heads.now members.now))) 384 out.old }
+    requires { (InOrder (tables_of counts (arrays_of places.now))) × Below half so_far }
+    ensures { Lists result so_far out.new (both_runs flow_command group_command there (tables_of other_counts (arrays_of other.now)) (tables_of counts (arrays_of places.now))) 384 out.old }
 {
-    let f = counts.flows;
-    let g = counts.groups;
-    let other_f = other.flows;
-    let other_g = other.groups;
     let a = flows(
         out,
         so_far,
         flow_command,
         there,
-        flow_rows,
-        f,
-        other_flows,
-        other_f,
+        counts,
+        places,
+        other_counts,
+        other,
     );
     groups(
         out,
         a,
         group_command,
         there,
-        heads,
-        members,
-        g,
-        other_heads,
-        other_members,
-        other_g,
+        counts,
+        places,
+        other_counts,
+        other,
     )
 }
 
@@ -284,17 +276,13 @@ fn both(
 fn given_back(
     out: &mut [u8],
     so_far: Listed,
-    early: Counts,
-    early_flows: &FlowRows,
-    early_heads: &GroupHeads,
-    early_members: &GroupMembers,
+    early_counts: Counts,
+    early: &Places,
     counts: Counts,
-    flow_rows: &FlowRows,
-    heads: &GroupHeads,
-    members: &GroupMembers,
+    places: &Places,
 ) -> Listed
-    requires { (InOrder (tables_of early (arrays early_flows.now early_heads.now early_members.now))) × Below quarter so_far }
-    ensures { Lists result so_far out.new (given_back (tables_of early (arrays early_flows.now early_heads.now early_members.now)) (tables_of counts (arrays flow_rows.now heads.now members.now))) 768 out.old }
+    requires { (InOrder (tables_of early_counts (arrays_of early.now))) × Below quarter so_far }
+    ensures { Lists result so_far out.new (given_back (tables_of early_counts (arrays_of early.now)) (tables_of counts (arrays_of places.now))) 768 out.old }
 {
     let a = both(
         out,
@@ -302,14 +290,10 @@ fn given_back(
         encoding::FLOW_MOD,
         encoding::GROUP_MOD,
         true,
+        early_counts,
         early,
-        early_flows,
-        early_heads,
-        early_members,
         counts,
-        flow_rows,
-        heads,
-        members,
+        places,
     );
     both(
         out,
@@ -317,14 +301,10 @@ fn given_back(
         encoding::FLOW_ADD,
         encoding::GROUP_ADD,
         false,
+        early_counts,
         early,
-        early_flows,
-        early_heads,
-        early_members,
         counts,
-        flow_rows,
-        heads,
-        members,
+        places,
     )
 }
 
@@ -332,17 +312,13 @@ fn given_back(
 // there is added. Where it does not fit, the room's bytes are not promised: lend another room to learn how long the list is.
 pub fn list(
     out: &mut [u8],
-    early: Counts,
-    early_flows: &FlowRows,
-    early_heads: &GroupHeads,
-    early_members: &GroupMembers,
+    early_counts: Counts,
+    early: &Places,
     counts: Counts,
-    flow_rows: &FlowRows,
-    heads: &GroupHeads,
-    members: &GroupMembers,
+    places: &Places,
 ) -> Listed
-    requires { (InOrder (tables_of early (arrays early_flows.now early_heads.now early_members.now))) × (InOrder (tables_of counts (arrays flow_rows.now heads.now members.now))) }
-    ensures { Lists result nothing_listed out.new (payloads (tables_of early (arrays early_flows.now early_heads.now early_members.now)) (tables_of counts (arrays flow_rows.now heads.now members.now))) 1152 out.old }
+    requires { (InOrder (tables_of early_counts (arrays_of early.now))) × (InOrder (tables_of counts (arrays_of places.now))) }
+    ensures { Lists result nothing_listed out.new (payloads (tables_of early_counts (arrays_of early.now)) (tables_of counts (arrays_of places.now))) 1152 out.old }
 {
     let none = Listed { count: 0, size: 0 };
     let a = both(
@@ -352,24 +328,9 @@ pub fn list(
         encoding::GROUP_DEL,
         false,
         counts,
-        flow_rows,
-        heads,
-        members,
+        places,
+        early_counts,
         early,
-        early_flows,
-        early_heads,
-        early_members,
     );
-    given_back(
-        out,
-        a,
-        early,
-        early_flows,
-        early_heads,
-        early_members,
-        counts,
-        flow_rows,
-        heads,
-        members,
-    )
+    given_back(out, a, early_counts, early, counts, places)
 }

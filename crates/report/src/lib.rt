@@ -3,17 +3,19 @@
 #![tactic(auto)]
 
 ghost use Rattle.std.specs.Prelude.{◌≡◌, ◌++◌, ◌+◌, ◌≤◌, length};
-ghost use Rattle.rules.specs.Tables.{arrays, live_flows, live_groups};
+ghost use Rattle.rules.specs.Tables.{live_flows, live_groups};
 ghost use Rattle.rules.specs.Journal.{decimal, item, line, Replayed.Replays, Replayed.Fails, report};
 ghost use Rattle.rules.specs.Undo.{word_payloads, word_bytes, undo_report};
 ghost use Rattle.replaying.specs.Reading.{progress_of};
 ghost use Rattle.replaying.specs.Replaying.{result_of};
+ghost use Rattle.tables.specs.Arrays.{arrays_of};
 ghost use Rattle.report.specs.Reporting.{Front, Puts, Spells, told_undone};
 
 use journal::put_bytes;
 use replaying::reader::Progress;
 use replaying::replay::Replayed;
-use rules::{FlowRow, FlowRows, GroupHead, GroupHeads, GroupMembers, MAX_MEMBERS};
+use rules::{FlowRow, GroupHead, MAX_MEMBERS};
+use tables::Places;
 
 // A number's digits, from a position of 20 bytes on.
 #[derive(Clone, Copy)]
@@ -86,19 +88,13 @@ fn live_groups(count: usize, heads: &[GroupHead], members: &[[u16; MAX_MEMBERS]]
 }
 
 // The five lines.
-fn put_progress(
-    out: &mut [u8],
-    p: Progress,
-    flows: &FlowRows,
-    heads: &GroupHeads,
-    members: &GroupMembers,
-) -> usize
+fn put_progress(out: &mut [u8], p: Progress, places: &Places) -> usize
     requires { 160 ≤ length out.old }
-    ensures { Puts result out.new 0 (report (Replays (progress_of p (arrays flows.now heads.now members.now)))) out.old 160 }
+    ensures { Puts result out.new 0 (report (Replays (progress_of p (arrays_of places.now)))) out.old 160 }
 {
     let counts = p.counts;
-    let live = live_flows(counts.flows, flows);
-    let groups = live_groups(counts.groups, heads, members);
+    let live = live_flows(counts.flows, &places.flows);
+    let groups = live_groups(counts.groups, &places.heads, &places.members);
     let a = put_line(out, 0, b"ports", p.terms.ports as u64);
     let b = put_line(out, a, b"lines", p.records);
     let c = put_line(out, b, b"charged", p.charged);
@@ -117,21 +113,15 @@ fn put_fault(out: &mut [u8], answer: u64, at: u64) -> usize
 }
 
 // The lines that the program prints, at the start of a buffer, and how many bytes they have.
-pub fn report(
-    out: &mut [u8; 160],
-    q: Replayed,
-    flows: &FlowRows,
-    heads: &GroupHeads,
-    members: &GroupMembers,
-) -> usize
-    ensures puts { Puts result out.new 0 (report (result_of q (arrays flows.now heads.now members.now))) out.old 160 }
+pub fn report(out: &mut [u8; 160], q: Replayed, places: &Places) -> usize
+    ensures puts { Puts result out.new 0 (report (result_of q (arrays_of places.now))) out.old 160 }
     ensures front { Front result out.new }
 {
     let answer = q.answer;
     let progress = q.progress;
     let n = answers::number(answer);
     if n == 0 {
-        put_progress(out, progress, flows, heads, members)
+        put_progress(out, progress, places)
     } else {
         put_fault(out, n, q.at)
     }

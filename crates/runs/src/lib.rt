@@ -3,16 +3,17 @@
 
 #![tactic(auto)]
 
-ghost use Rattle.rules.specs.Tables.{arrays};
 ghost use Rattle.rules.specs.Switch.{storage};
 ghost use Rattle.rules.specs.Journal.{replay};
 ghost use Rattle.device.specs.Outcome.{Makes};
 ghost use Rattle.replaying.specs.Replaying.{Gives};
+ghost use Rattle.tables.specs.Arrays.{arrays_of};
 ghost use Rattle.runs.specs.Runs.{Ensured};
 
 use device::{Called, Made};
 use replaying::replay::Replayed;
 use rules::{Device, FlowOrder, FlowRows, GroupHeads, GroupMembers, Request};
+use tables::Places;
 
 // The start of a run: `Run` of specs/Runs.antt has it.
 fn fresh(
@@ -49,13 +50,8 @@ fn call(
 }
 
 // The replay of its journal: `CodeClaim` has it.
-fn replay(
-    s: &[u8],
-    flows: &mut FlowRows,
-    heads: &mut GroupHeads,
-    members: &mut GroupMembers,
-) -> Replayed
-    ensures { Gives result (arrays flows.new heads.new members.new) (replay s.now) }
+fn replay(s: &[u8], places: &mut Places) -> Replayed
+    ensures { Gives result (arrays_of places.new) (replay s.now) }
 {
-    replaying::replay::replay(s, flows, heads, members)
+    replaying::replay::replay(s, places)
 }

@@ -15,10 +15,12 @@ use rules::{
 mod flows;
 mod groups;
 mod places;
+mod stored;
 
 pub use flows::{flow_add, flow_del, flow_mod};
 pub use groups::{group_add, group_del, group_mod};
 pub use places::{Keyed, close, free_place, held_place, live, open, place};
+pub use stored::Places;
 
 /// The status that completes a command, by what it gave.
 pub fn status<T>(outcome: &Result<T, Status>) -> Status

@@ -5,12 +5,12 @@
 mod reading;
 
 use input::files;
-use rules::{FLOW_WORDS, HEAD_WORDS, MAX_FLOWS, MAX_GROUPS, MAX_MEMBERS};
 use std::env::Env;
 use std::fs::{File, OpenFile};
 use std::io;
 use std::io::{ErrorKind, Write};
 use std::rt::Files;
+use tables::Places;
 use text::Numeral;
 use undoing::Undone;
 
@@ -87,39 +87,15 @@ fn finish<T: Files + Print + Eprint>(rt: &T, u: Undone, room: &[u8], out: &str) 
 
 // A journal that cannot be read prints nothing on standard output and leaves OUT alone.
 fn undo<T: Files + Input + Print + Eprint>(rt: &T, n: u64, path: &str, out: &str) {
-    let mut flows = [[0u32; FLOW_WORDS]; MAX_FLOWS];
-    let mut heads = [[0u32; HEAD_WORDS]; MAX_GROUPS];
-    let mut members = [[0u16; MAX_MEMBERS]; MAX_GROUPS];
-    let mut early_flows = [[0u32; FLOW_WORDS]; MAX_FLOWS];
-    let mut early_heads = [[0u32; HEAD_WORDS]; MAX_GROUPS];
-    let mut early_members = [[0u16; MAX_MEMBERS]; MAX_GROUPS];
-    let d = reading::read_file(
-        rt,
-        path,
-        n,
-        &mut flows,
-        &mut heads,
-        &mut members,
-        &mut early_flows,
-        &mut early_heads,
-        &mut early_members,
-    );
+    let mut places = Places::new();
+    let mut early = Places::new();
+    let d = reading::read_file(rt, path, n, &mut places, &mut early);
     if d.failure.is_some() {
         return;
     }
     let ended = d.ended;
     let mut room = [0u8; ROOM];
-    let u = undoing::write(
-        ended,
-        n,
-        &mut room,
-        &flows,
-        &heads,
-        &members,
-        &early_flows,
-        &early_heads,
-        &early_members,
-    );
+    let u = undoing::write(ended, n, &mut room, &places, &early);
     finish(rt, u, &room, out);
 }
 

@@ -9,11 +9,9 @@ ghost use Rattle.undoing.specs.Undoing.{Is};
 
 use earlier::reading;
 use lines::print;
-use rules::{
-    FLOW_WORDS, FlowRows, GroupHeads, GroupMembers, HEAD_WORDS, MAX_FLOWS, MAX_GROUPS, MAX_MEMBERS,
-};
 use std::io;
 use std::io::{Read, Write};
+use tables::Places;
 use undoing::Undone;
 
 // The most bytes that a journal and a room have here; of a longer one as many are taken.
@@ -37,12 +35,8 @@ fn in_pieces(
     s: &[u8],
     step: usize,
     room: &mut [u8],
-    flows: &mut FlowRows,
-    heads: &mut GroupHeads,
-    members: &mut GroupMembers,
-    early_flows: &mut FlowRows,
-    early_heads: &mut GroupHeads,
-    early_members: &mut GroupMembers,
+    places: &mut Places,
+    early: &mut Places,
 ) -> Undone
     requires { 1 ≤ step }
     ensures { Is result room.new (undo s.now n room.old) }
@@ -52,40 +46,12 @@ fn in_pieces(
     let mut end: usize = 0;
     while end < s.len() {
         end = end + numbers::min(step, s.len() - end);
-        let g = reading::feed(
-            u,
-            &s[at..end],
-            flows,
-            heads,
-            members,
-            early_flows,
-            early_heads,
-            early_members,
-        );
+        let g = reading::feed(u, &s[at..end], places, early);
         u = g.undoing;
         at = at + g.used;
     }
-    let ended = reading::finish(
-        u,
-        &s[at..],
-        flows,
-        heads,
-        members,
-        early_flows,
-        early_heads,
-        early_members,
-    );
-    undoing::write(
-        ended,
-        n,
-        room,
-        flows,
-        heads,
-        members,
-        early_flows,
-        early_heads,
-        early_members,
-    )
+    let ended = reading::finish(u, &s[at..], places, early);
+    undoing::write(ended, n, room, places, early)
 }
 
 fn same_numbers(u: Undone, v: Undone) -> bool {
@@ -98,46 +64,17 @@ fn same_numbers(u: Undone, v: Undone) -> bool {
 }
 
 fn undo_whole(n: u64, s: &[u8], room: &mut [u8]) -> Undone {
-    let mut flows = [[0u32; FLOW_WORDS]; MAX_FLOWS];
-    let mut heads = [[0u32; HEAD_WORDS]; MAX_GROUPS];
-    let mut members = [[0u16; MAX_MEMBERS]; MAX_GROUPS];
-    let mut early_flows = [[0u32; FLOW_WORDS]; MAX_FLOWS];
-    let mut early_heads = [[0u32; HEAD_WORDS]; MAX_GROUPS];
-    let mut early_members = [[0u16; MAX_MEMBERS]; MAX_GROUPS];
-    undoing::undo(
-        s,
-        n,
-        room,
-        &mut flows,
-        &mut heads,
-        &mut members,
-        &mut early_flows,
-        &mut early_heads,
-        &mut early_members,
-    )
+    let mut places = Places::new();
+    let mut early = Places::new();
+    undoing::undo(s, n, room, &mut places, &mut early)
 }
 
 fn undo_in_pieces(n: u64, s: &[u8], step: usize, room: &mut [u8]) -> Undone
     requires { 1 ≤ step }
 {
-    let mut flows = [[0u32; FLOW_WORDS]; MAX_FLOWS];
-    let mut heads = [[0u32; HEAD_WORDS]; MAX_GROUPS];
-    let mut members = [[0u16; MAX_MEMBERS]; MAX_GROUPS];
-    let mut early_flows = [[0u32; FLOW_WORDS]; MAX_FLOWS];
-    let mut early_heads = [[0u32; HEAD_WORDS]; MAX_GROUPS];
-    let mut early_members = [[0u16; MAX_MEMBERS]; MAX_GROUPS];
-    in_pieces(
-        n,
-        s,
-        step,
-        room,
-        &mut flows,
-        &mut heads,
-        &mut members,
-        &mut early_flows,
-        &mut early_heads,
-        &mut early_members,
-    )
+    let mut places = Places::new();
+    let mut early = Places::new();
+    in_pieces(n, s, step, room, &mut places, &mut early)
 }
 
 // Whether pieces give what the whole gives: the same numbers and the same room.

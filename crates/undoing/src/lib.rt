@@ -3,15 +3,17 @@
 #![tactic(auto)]
 
 ghost use Rattle.std.specs.Prelude.{◌≡◌};
-ghost use Rattle.rules.specs.Tables.{arrays, tables_of};
+ghost use Rattle.rules.specs.Tables.{tables_of};
 ghost use Rattle.rules.specs.Undo.{payloads, fitted, undo_from, undo};
 ghost use Rattle.replaying.specs.Replaying.{result_of};
 ghost use Rattle.listing.specs.Listing.{InOrder};
+ghost use Rattle.tables.specs.Arrays.{arrays_of};
 ghost use Rattle.undoing.specs.Undoing.{Is};
 
 use earlier::reading;
 use earlier::reading::Ended;
-use rules::{Answer, Counts, FlowRows, GroupHeads, GroupMembers};
+use rules::{Answer, Counts};
+use tables::Places;
 
 // The answer; the record of a journal's fault; how many payloads and bytes the list has.
 #[derive(Clone, Copy)]
@@ -38,44 +40,20 @@ fn refuse(answer: Answer, at: u64) -> Undone
 // first, to learn how long it is.
 fn fit(
     room: &mut [u8],
-    early: Counts,
-    early_flows: &FlowRows,
-    early_heads: &GroupHeads,
-    early_members: &GroupMembers,
+    early_counts: Counts,
+    early: &Places,
     counts: Counts,
-    flows: &FlowRows,
-    heads: &GroupHeads,
-    members: &GroupMembers,
+    places: &Places,
 ) -> Undone
-    requires { (InOrder (tables_of early (arrays early_flows.now early_heads.now early_members.now))) × (InOrder (tables_of counts (arrays flows.now heads.now members.now))) }
-    ensures { Is result room.new (fitted (payloads (tables_of early (arrays early_flows.now early_heads.now early_members.now)) (tables_of counts (arrays flows.now heads.now members.now))) room.old) }
+    requires { (InOrder (tables_of early_counts (arrays_of early.now))) × (InOrder (tables_of counts (arrays_of places.now))) }
+    ensures { Is result room.new (fitted (payloads (tables_of early_counts (arrays_of early.now)) (tables_of counts (arrays_of places.now))) room.old) }
 {
     let mut elsewhere = [0u8; 1];
-    let needs = listing::list(
-        &mut elsewhere,
-        early,
-        early_flows,
-        early_heads,
-        early_members,
-        counts,
-        flows,
-        heads,
-        members,
-    );
+    let needs = listing::list(&mut elsewhere, early_counts, early, counts, places);
     if room.len() < needs.size {
         return refuse(Answer::RoomShort, 0);
     }
-    let l = listing::list(
-        room,
-        early,
-        early_flows,
-        early_heads,
-        early_members,
-        counts,
-        flows,
-        heads,
-        members,
-    );
+    let l = listing::list(room, early_counts, early, counts, places);
     Undone {
         answer: Answer::Done,
         at: 0,
@@ -85,22 +63,12 @@ fn fit(
 }
 
 // The list of a journal that was read to its end: 10 to 14, then 15, then 16.
-pub fn write(
-    ended: Ended,
-    n: u64,
-    room: &mut [u8],
-    flows: &FlowRows,
-    heads: &GroupHeads,
-    members: &GroupMembers,
-    early_flows: &FlowRows,
-    early_heads: &GroupHeads,
-    early_members: &GroupMembers,
-) -> Undone
-    requires { (InOrder (tables_of ended.early (arrays early_flows.now early_heads.now early_members.now))) × (InOrder (tables_of ended.result.progress.counts (arrays flows.now heads.now members.now))) }
-    ensures { Is result room.new (undo_from (result_of ended.result (arrays flows.now heads.now members.now)) n (tables_of ended.early (arrays early_flows.now early_heads.now early_members.now)) room.old) }
+pub fn write(ended: Ended, n: u64, room: &mut [u8], places: &Places, early: &Places) -> Undone
+    requires { (InOrder (tables_of ended.early (arrays_of early.now))) × (InOrder (tables_of ended.result.progress.counts (arrays_of places.now))) }
+    ensures { Is result room.new (undo_from (result_of ended.result (arrays_of places.now)) n (tables_of ended.early (arrays_of early.now)) room.old) }
 {
     let q = ended.result;
-    let early = ended.early;
+    let early_counts = ended.early;
     let answer = q.answer;
     if answers::number(answer) != 0 {
         return refuse(answer, q.at);
@@ -110,17 +78,7 @@ pub fn write(
     if p.records < n {
         return refuse(Answer::TooFewRecords, 0);
     }
-    fit(
-        room,
-        early,
-        early_flows,
-        early_heads,
-        early_members,
-        counts,
-        flows,
-        heads,
-        members,
-    )
+    fit(room, early_counts, early, counts, places)
 }
 
 // From a journal and a number n, the list at the start of a room. What stands in the lent arrays before makes no difference.
@@ -128,34 +86,11 @@ pub fn undo(
     journal: &[u8],
     n: u64,
     room: &mut [u8],
-    flows: &mut FlowRows,
-    heads: &mut GroupHeads,
-    members: &mut GroupMembers,
-    early_flows: &mut FlowRows,
-    early_heads: &mut GroupHeads,
-    early_members: &mut GroupMembers,
+    places: &mut Places,
+    early: &mut Places,
 ) -> Undone
     ensures { Is result room.new (undo journal.now n room.old) }
 {
-    let ended = reading::finish(
-        reading::open(n),
-        journal,
-        flows,
-        heads,
-        members,
-        early_flows,
-        early_heads,
-        early_members,
-    );
-    write(
-        ended,
-        n,
-        room,
-        flows,
-        heads,
-        members,
-        early_flows,
-        early_heads,
-        early_members,
-    )
+    let ended = reading::finish(reading::open(n), journal, places, early);
+    write(ended, n, room, places, early)
 }

@@ -19,7 +19,7 @@ returns-then-picks_group c =
     let f = c.group_after-p.ensures in
     let a = c.args in record {
       steps = step_there id_of f.2 _ (group_in ([], [])) c.if-p-at.false
-          (group_at _ _ a.heads.now a.members.now f.0 f.1 (live_there id_of f.2 c.if-p-at.false) ∙ sym c.group_of-e.ensures) refl refl
+          (group_at _ _ a.places.now.heads a.places.now.members f.0 f.1 (live_there id_of f.2 c.if-p-at.false) ∙ sym c.group_of-e.ensures) refl refl
           (group_listed _ _ _ _ c.picks_group.ensures c.if-picks_group.true c.add_group-listed.ensures);
       key_bound = search rules;
     }
@@ -29,7 +29,7 @@ returns-else-picks_group c =
     let f = c.group_after-p.ensures in
     let a = c.args in record {
       steps = step_there id_of f.2 _ (group_in ([], [])) c.if-p-at.false
-          (group_at _ _ a.heads.now a.members.now f.0 f.1 (live_there id_of f.2 c.if-p-at.false) ∙ sym c.group_of-e.ensures) refl refl
+          (group_at _ _ a.places.now.heads a.places.now.members f.0 f.1 (live_there id_of f.2 c.if-p-at.false) ∙ sym c.group_of-e.ensures) refl refl
           (group_passed _ _ _ _ c.picks_group.ensures _ _ c.if-picks_group.false);
       key_bound = search rules;
     }

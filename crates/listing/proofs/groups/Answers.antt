@@ -8,7 +8,7 @@ use Rattle.listing.proofs.groups.Goals as goal
 
 pub loop-more-init : goal.loop-more-init
 loop-more-init c =
-    let h = c.args.heads.now in
+    let h = c.args.places.now.heads in
     (run_starts id_of _ (group_run_nil _ _ _) (groups_few _ h _ (omega (arith, c.all-1.given))), omega arith)
 
 pub group_step-t-requires : goal.group_step-t-requires
