@@ -1,10 +1,14 @@
-// Addresses and prefixes (rules, specs/Address.antt). An address of 32 or 128 bits stands in the upper bits of two words of 64, so that one
-// comparison of first bits serves both widths; a mask is known by its length.
+//! Addresses and prefixes (rules, specs/Address.antt). An address of 32 or 128 bits stands in the upper bits of two words of 64, so that one
+//! comparison of first bits serves both widths; a mask is known by its length.
 
 #![tactic(auto)]
 
 ghost use Rattle.std.specs.Prelude.{◌≡◌, min, ◌+◌, ◌*◌, ◌-◌, ◌/◌, ◌^◌, ◌≤◌};
 ghost use Rattle.rules.specs.Address.{prefix_mask, prefix_length, agree, is_ipv6, is_routed_type, address_bits, address_in, is_unicast};
+
+mod address;
+
+pub use address::Address;
 
 const IPV4: u16 = 0x0800;
 
@@ -37,47 +41,42 @@ pub fn is_unicast(ethertype: u16, high: u64) -> bool
 
 // ---- Masks
 
-// The length of a mask of `width` bits, or one more where it is no prefix mask: it is compared with the mask of each length. `half` is
-// the highest of the bits.
-fn length_of(width: u8, half: u64, mask: u64) -> u8
-    requires { (1 ≤ width) × (width ≤ 64) × (half ≡ 2 ^ (width - 1)) }
-    ensures { result ≡ prefix_length width mask }
+// The number whose lowest bits are ones.
+fn ones(count: u32) -> u128
+    requires { count ≤ 128 }
+    ensures { result ≡ 2 ^ count - 1 }
 {
-    let mut length: u8 = 0;
-    let mut ones: u64 = 0;
-    let mut next = half;
-    while length <= width {
-        if mask == ones {
-            return length;
-        }
-        ones += next;
-        next = next / 2;
-        length += 1;
+    if count == 128 {
+        u128::MAX
+    } else {
+        (1 << count) - 1
     }
-    length
 }
 
+// The length of a mask, or one more than it has bits where it is no prefix mask.
+fn length_of<A: Address>(mask: A) -> u8
+    ensures { result ≡ prefix_length A.BITS (A.number mask) }
+{
+    let length = mask.leading_ones();
+    if mask.to_u128() == ones(A::BITS) - ones(A::BITS - length) {
+        length as u8
+    } else {
+        A::BITS as u8 + 1
+    }
+}
+
+/// The length of an IPv4 mask, or 33 where it is no prefix mask.
 pub fn ipv4_length(mask: u32) -> u8
     ensures { result ≡ prefix_length 32 mask }
 {
-    length_of(32, 0x80000000, mask as u64)
+    length_of(mask)
 }
 
-// The ones of a prefix mask end in its upper word, or fill that and end in the lower one.
+/// The length of an IPv6 mask in two words, or 129 where it is no prefix mask.
 pub fn ipv6_length(high: u64, low: u64) -> u8
     ensures { result ≡ prefix_length 128 (high * 2 ^ 64 + low) }
 {
-    let upper = length_of(64, 0x8000000000000000, high);
-    if upper < 64 {
-        if low == 0 {
-            return upper;
-        }
-        return 129;
-    }
-    if upper == 64 {
-        return 64 + length_of(64, 0x8000000000000000, low);
-    }
-    129
+    length_of((high as u128) * 0x10000000000000000 + low as u128)
 }
 
 // ---- Comparing

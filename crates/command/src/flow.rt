@@ -1,67 +1,69 @@
-// Flow commands in a CMD_INFO. `ethertype` is its ETHERTYPE, read once.
+//! Flow commands in a CMD_INFO. `ethertype` is its ETHERTYPE, read once.
+
 ghost use Rattle.std.specs.Prelude.{◌≡◌};
-ghost use Rattle.rules.specs.Choose.{choose};
 ghost use Rattle.rules.specs.Decode.{header_of, ethertype_in, match_of, flow_of, flow_user, flow_in, flow_key_in};
-ghost use Rattle.rules.specs.declared.Command.TheVariants.{FlowAdd, FlowMod};
-ghost use Rattle.tlv.specs.Index.{Indexed};
+ghost use Rattle.rules.specs.declared.Flow.{Flow};
+ghost use Rattle.rules.specs.declared.Command.{Command};
+ghost use Rattle.rules.specs.declared.Command.TheVariants.{FlowDel};
+ghost use Rattle.command.specs.Answer.{carried_by};
 
 use crate::route;
-use rules::{Command, Decoding, FIELD_TYPES, Flow, MAX_MEMBERS, Match, Status, Terms};
+use fields::Fields;
+use rules::{Flow, Match, Status};
 
 // What a flow of table 50 compares.
-fn bridging_of(s: &[u8], header: usize, places: &[usize; FIELD_TYPES]) -> Match
-    requires { Indexed header s.now places.now }
-    ensures { result ≡ match_of header s.now 50 }
+fn bridging_of(info: &Fields<'_>) -> Match
+    ensures { result ≡ match_of (header_of info.now.terms) info.now.bytes 50 }
 {
     Match::Bridging {
-        vlan_id: super::be16(s, header, places, fields::VLAN_ID),
-        has_mac: fields::given(s, header, places, fields::DST_MAC),
-        dst_mac: fields::value(s, header, places, fields::DST_MAC),
-        has_group: fields::given(s, header, places, fields::GROUP_ID),
-        group_id: super::word(s, header, places, fields::GROUP_ID),
+        vlan_id: info.be16(fields::VLAN_ID),
+        has_mac: info.given(fields::DST_MAC),
+        dst_mac: info.value(fields::DST_MAC),
+        has_group: info.given(fields::GROUP_ID),
+        group_id: info.word(fields::GROUP_ID),
     }
 }
 
-fn match_of(s: &[u8], header: usize, places: &[usize; FIELD_TYPES], t: u64, ethertype: u16) -> Match
-    requires { (Indexed header s.now places.now) × (ethertype ≡ ethertype_in header s.now) }
-    ensures { result ≡ match_of header s.now t }
+fn match_of(info: &Fields<'_>, t: u64, ethertype: u16) -> Match
+    requires { ethertype ≡ ethertype_in (header_of info.now.terms) info.now.bytes }
+    ensures { result ≡ match_of (header_of info.now.terms) info.now.bytes t }
 {
     if t == 0 {
         Match::IngressPort {
-            in_pport: super::word(s, header, places, fields::IN_PPORT),
-            in_pport_mask: super::word(s, header, places, fields::IN_PPORT_MASK),
+            in_pport: info.word(fields::IN_PPORT),
+            in_pport_mask: info.word(fields::IN_PPORT_MASK),
         }
     } else if t == 10 {
         Match::Vlan {
-            in_pport: super::word(s, header, places, fields::IN_PPORT),
-            vlan_id: super::be16(s, header, places, fields::VLAN_ID),
-            new_vlan_id: super::be16(s, header, places, fields::NEW_VLAN_ID),
+            in_pport: info.word(fields::IN_PPORT),
+            vlan_id: info.be16(fields::VLAN_ID),
+            new_vlan_id: info.be16(fields::NEW_VLAN_ID),
         }
     } else if t == 20 {
         Match::TerminationMac {
-            in_pport: super::word(s, header, places, fields::IN_PPORT),
+            in_pport: info.word(fields::IN_PPORT),
             ethertype: ethertype,
-            dst_mac: fields::value(s, header, places, fields::DST_MAC),
-            vlan_id: super::be16(s, header, places, fields::VLAN_ID),
+            dst_mac: info.value(fields::DST_MAC),
+            vlan_id: info.be16(fields::VLAN_ID),
         }
     } else if t == 30 {
-        route::route_of(s, header, places, ethertype)
+        route::route_of(info, ethertype)
     } else {
-        bridging_of(s, header, places)
+        bridging_of(info)
     }
 }
 
-fn flow_of(s: &[u8], header: usize, places: &[usize; FIELD_TYPES], t: u64, ethertype: u16) -> Flow
-    requires { (Indexed header s.now places.now) × (ethertype ≡ ethertype_in header s.now) }
-    ensures { result ≡ flow_of header s.now t }
+fn flow_of(info: &Fields<'_>, t: u64, ethertype: u16) -> Flow
+    requires { ethertype ≡ ethertype_in (header_of info.now.terms) info.now.bytes }
+    ensures { result ≡ flow_of (header_of info.now.terms) info.now.bytes t }
 {
-    let matching = match_of(s, header, places, t, ethertype);
+    let matching = match_of(info, t, ethertype);
     Flow {
-        cookie: fields::value(s, header, places, fields::COOKIE),
-        priority: super::word(s, header, places, fields::PRIORITY),
-        hardtime: super::word(s, header, places, fields::HARDTIME),
-        idletime: super::word(s, header, places, fields::IDLETIME),
-        goto_tbl: fields::value(s, header, places, fields::GOTO_TBL) as u16,
+        cookie: info.value(fields::COOKIE),
+        priority: info.word(fields::PRIORITY),
+        hardtime: info.word(fields::HARDTIME),
+        idletime: info.word(fields::IDLETIME),
+        goto_tbl: info.half(fields::GOTO_TBL),
         matching: matching,
     }
 }
@@ -82,57 +84,45 @@ fn flow_user(t: u64, ethertype: u16) -> u16
     }
 }
 
-fn flow_command(add: bool, f: Flow) -> Command
-    ensures { result ≡ choose add FlowAdd FlowMod f }
+/// The flow of an add or a mod.
+///
+/// # Errors
+///
+/// EINVAL without a TBL, ENOTSUP where that is no table, EINVAL where another field is not right.
+pub fn flow_in(info: &Fields<'_>) -> Result<Flow, Status>
+    ensures { (make : Flow → Command) → carried_by make result ≡ flow_in info.now.terms info.now.bytes make }
 {
-    if add {
-        Command::FlowAdd(f)
-    } else {
-        Command::FlowMod(f)
+    if !info.given(fields::TBL) {
+        return Err(Status::Einval);
     }
-}
-
-// Flow add and mod.
-pub fn flow_in(
-    terms: Terms,
-    s: &[u8],
-    header: usize,
-    places: &[usize; FIELD_TYPES],
-    add: bool,
-) -> Decoding
-    requires { (Indexed header s.now places.now) × (header ≡ header_of terms) }
-    ensures { result ≡ flow_in terms s.now (choose add FlowAdd FlowMod) }
-{
-    if !fields::given(s, header, places, fields::TBL) {
-        return super::refused(Status::Einval);
-    }
-    let t = fields::value(s, header, places, fields::TBL);
+    let t = info.value(fields::TBL);
+    let terms = info.terms();
     if !ranges::is_table(terms.version, t) {
-        return super::refused(Status::Enotsup);
+        return Err(Status::Enotsup);
     }
-    let ethertype = super::be16(s, header, places, fields::ETHERTYPE);
-    let flow = flow_of(s, header, places, t, ethertype);
+    let ethertype = info.be16(fields::ETHERTYPE);
+    let flow = flow_of(info, t, ethertype);
     let matching = flow.matching;
-    let has_new = fields::given(s, header, places, fields::NEW_VLAN_ID);
-    if !(fields::fields_right(s, header, places, flow_user(t, ethertype))
-        & route::pair_alone(s, header, places, t, ethertype)
+    let has_new = info.given(fields::NEW_VLAN_ID);
+    if !(info.right_for(flow_user(t, ethertype))
+        & route::pair_alone(info, t, ethertype)
         & ranges::match_allowed(terms, flow.goto_tbl, has_new, matching))
     {
-        return super::refused(Status::Einval);
+        return Err(Status::Einval);
     }
-    super::carried(flow_command(add, flow), [0; MAX_MEMBERS])
+    Ok(flow)
 }
 
-// Flow del.
-pub fn flow_key_in(terms: Terms, s: &[u8], header: usize, places: &[usize; FIELD_TYPES]) -> Decoding
-    requires { (Indexed header s.now places.now) × (header ≡ header_of terms) }
-    ensures { result ≡ flow_key_in terms s.now }
+/// The cookie of a del.
+///
+/// # Errors
+///
+/// EINVAL where it is not right.
+pub fn flow_key_in(info: &Fields<'_>) -> Result<u64, Status>
+    ensures { carried_by FlowDel result ≡ flow_key_in info.now.terms info.now.bytes }
 {
-    if !fields::fields_right(s, header, places, fields::FLOW_DEL) {
-        return super::refused(Status::Einval);
+    if !info.right_for(fields::FLOW_DEL) {
+        return Err(Status::Einval);
     }
-    super::carried(
-        Command::FlowDel(fields::value(s, header, places, fields::COOKIE)),
-        [0; MAX_MEMBERS],
-    )
+    Ok(info.value(fields::COOKIE))
 }

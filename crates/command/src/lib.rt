@@ -1,19 +1,19 @@
-// A payload decoded: what it asks for, or the status of its first fault. Every function is equal to a rule of `rules`.
+//! A payload decoded: what it asks for, or the status of its first fault. Every function is equal to a rule of `rules`.
 
-#![tactic(auto)]
+#![tactic(auto, unfolding(rules::specs::Fields::rule_of, rules::specs::Fields::rule_in, rules::specs::Fields::rows))]
 
-ghost use Rattle.std.specs.Prelude.{◌≡◌, List, ℕ, ◌≤◌, ◌<◌};
-ghost use Rattle.rules.specs.Bytes.{swap16};
-ghost use Rattle.rules.specs.Fields.{rule_of, value};
-ghost use Rattle.rules.specs.Members.{pad};
-ghost use Rattle.rules.specs.Decode.{header_of, refused, carried, is_command, command_in, decode};
-ghost use Rattle.tlv.specs.Index.{Indexed};
-ghost use Rattle.rules.specs.Limits.{field_types};
+ghost use Rattle.std.specs.Prelude.{◌≡◌, Ok};
+ghost use Rattle.rules.specs.Decode.{refused, command_in, decode};
+ghost use Rattle.command.specs.Kind.{number_of};
+ghost use Rattle.command.specs.Answer.{answered};
 
-use rules::{Command, Decoding, FIELD_TYPES, MAX_MEMBERS, Status, Terms};
+use fields::Fields;
+use kind::CommandKind;
+use rules::{Command, Decoding, MAX_MEMBERS, Members, Status, Terms};
 
 mod flow;
 mod group;
+mod kind;
 mod route;
 
 // The types of the fields of a payload.
@@ -21,114 +21,73 @@ const CMD_TYPE: u32 = 1;
 
 const CMD_INFO: u32 = 2;
 
-// The values of CMD_TYPE.
-const FLOW_ADD: u64 = 3;
+const NO_MEMBERS: Members = [0; MAX_MEMBERS];
 
-const FLOW_MOD: u64 = 4;
-
-const FLOW_DEL: u64 = 5;
-
-const GROUP_ADD: u64 = 7;
-
-const GROUP_MOD: u64 = 8;
-
-const GROUP_DEL: u64 = 9;
-
-fn refused(e: Status) -> Decoding
-    ensures { result ≡ refused e }
+#[tactic(auto, unfolding(rules::specs::Decode::refused, rules::specs::Members::pad))]
+fn refused(status: Status) -> Decoding
+    ensures { result ≡ refused status }
 {
     Decoding {
-        what: Err(e),
+        what: Err(status),
         members: [0; MAX_MEMBERS],
     }
 }
 
-// A command, with the low bits of its group's members at the front of `lows`.
-fn carried(command: Command, lows: [u16; MAX_MEMBERS]) -> Decoding
-    ensures { (l : List ℕ) → lows ≡ pad l → result ≡ carried command l }
+// A command, with the low bits of its group's members.
+fn carried(command: Command, members: Members) -> Decoding
+    ensures { result ≡ answered (Ok (command, members)) }
 {
     Decoding {
         what: Ok(command),
-        members: lows,
+        members: members,
     }
 }
 
-// The number of a field that has four bytes at most.
-fn word(s: &[u8], header: usize, places: &[usize; FIELD_TYPES], t: u32) -> u32
-    requires { (Indexed header s.now places.now) × (t < field_types) × ((rule_of t).width ≤ 4) }
-    ensures { result ≡ value header s.now t }
+// A command in CMD_INFO, by its kind, with the low bits of its group's members.
+fn command_in(kind: CommandKind, info: &Fields<'_>) -> Result<(Command, Members), Status>
+    ensures { answered result ≡ command_in info.now.terms (number_of kind) info.now.bytes }
 {
-    fields::value(s, header, places, t) as u32
+    match kind {
+        CommandKind::FlowAdd => Ok((Command::FlowAdd(flow::flow_in(info)?), NO_MEMBERS)),
+        CommandKind::FlowMod => Ok((Command::FlowMod(flow::flow_in(info)?), NO_MEMBERS)),
+        CommandKind::FlowDel => Ok((Command::FlowDel(flow::flow_key_in(info)?), NO_MEMBERS)),
+        CommandKind::GroupAdd => {
+            let (group, members) = group::group_in(info)?;
+            Ok((Command::GroupAdd(group), members))
+        }
+        CommandKind::GroupMod => {
+            let (group, members) = group::group_in(info)?;
+            Ok((Command::GroupMod(group), members))
+        }
+        CommandKind::GroupDel => Ok((Command::GroupDel(group::group_key_in(info)?), NO_MEMBERS)),
+    }
 }
 
-// A VLAN or an ETHERTYPE, which is big-endian.
-fn be16(s: &[u8], header: usize, places: &[usize; FIELD_TYPES], t: u32) -> u16
-    requires { (Indexed header s.now places.now) × (t < field_types) × ((rule_of t).width ≤ 8) }
-    ensures { result ≡ swap16 (value header s.now t) }
+// The command of a payload, or its first fault.
+fn command_of(payload: &[u8], terms: Terms) -> Result<(Command, Members), Status>
+    ensures { answered result ≡ decode terms payload.now }
 {
-    let v = fields::value(s, header, places, t);
-    (v % 256 * 256 + v / 256 % 256) as u16
+    let top = Fields::new(terms, payload)?;
+    let number = top.get(CMD_TYPE, 2);
+    let info = top.get(CMD_INFO, 0);
+    if !(found::is_at(number) & found::is_at(info)) {
+        return Err(Status::Einval);
+    }
+    let kind = CommandKind::try_from(found::number_in(payload, 2, number))?;
+    let info = Fields::new(terms, found::nest_in(payload, info))?;
+    command_in(kind, &info)
 }
 
-fn is_command(c: u64) -> bool
-    ensures { result ≡ is_command c }
-{
-    (c == FLOW_ADD)
-        | (c == FLOW_MOD)
-        | (c == FLOW_DEL)
-        | (c == GROUP_ADD)
-        | (c == GROUP_MOD)
-        | (c == GROUP_DEL)
-}
-
-// A command in CMD_INFO, by its CMD_TYPE. `header` is how many header bytes a length counts under the terms.
-fn command_in(
-    terms: Terms,
-    c: u64,
-    s: &[u8],
-    header: usize,
-    places: &[usize; FIELD_TYPES],
-) -> Decoding
-    requires { (Indexed header s.now places.now) × (header ≡ header_of terms) }
-    ensures { result ≡ command_in terms c s.now }
-{
-    if c == FLOW_ADD {
-        return flow::flow_in(terms, s, header, places, true);
-    }
-    if c == FLOW_MOD {
-        return flow::flow_in(terms, s, header, places, false);
-    }
-    if c == FLOW_DEL {
-        return flow::flow_key_in(terms, s, header, places);
-    }
-    if c == GROUP_ADD {
-        return group::group_in(terms, s, header, places, true);
-    }
-    if c == GROUP_MOD {
-        return group::group_in(terms, s, header, places, false);
-    }
-    group::group_key_in(terms, s, header, places)
-}
-
-// A payload, under the terms of a device or a journal.
+/// A payload, under the terms of a device or a journal: its command with the low bits of its group's members, or the status of its
+/// first fault.
 pub fn decode(payload: &[u8], terms: Terms) -> Decoding
     ensures { result ≡ decode terms payload.now }
 {
-    let header = tlv::header_bytes(terms.version);
-    let top = tlv::index_of(payload, header);
-    let kind = found::found(payload, header, &top.places, CMD_TYPE, 2);
-    let info = found::found(payload, header, &top.places, CMD_INFO, 0);
-    if !(top.whole & found::is_at(kind) & found::is_at(info)) {
-        return refused(Status::Einval);
+    match command_of(payload, terms) {
+        Ok(found) => {
+            let (command, members) = found;
+            carried(command, members)
+        }
+        Err(status) => refused(status),
     }
-    let c = found::number_in(payload, 2, kind);
-    if !is_command(c) {
-        return refused(Status::Enotsup);
-    }
-    let nest = found::nest_in(payload, info);
-    let index = tlv::index_of(nest, header);
-    if !index.whole {
-        return refused(Status::Einval);
-    }
-    command_in(terms, c, nest, header, &index.places)
 }

@@ -1,30 +1,19 @@
-// Flows of table 30: an address and its mask, of the family that ETHERTYPE names.
-ghost use Rattle.std.specs.Prelude.{◌≡◌, ◌<◌};
-ghost use Rattle.rules.specs.Bytes.{swapped};
-ghost use Rattle.rules.specs.Fields.{rule_of, value};
-ghost use Rattle.rules.specs.Decode.{ethertype_in, other_absent, pair_alone, route_of, flow_user};
-ghost use Rattle.rules.specs.Limits.{field_types};
-ghost use Rattle.tlv.specs.Index.{Indexed};
+//! Flows of table 30: an address and its mask, of the family that ETHERTYPE names.
 
-use rules::{FIELD_TYPES, Match};
+ghost use Rattle.std.specs.Prelude.{◌≡◌};
+ghost use Rattle.rules.specs.Decode.{header_of, ethertype_in, other_absent, pair_alone, route_of, flow_user};
 
-// An IPv4 address or mask, which is big-endian.
-fn ipv4(s: &[u8], header: usize, places: &[usize; FIELD_TYPES], t: u32) -> u32
-    requires { (Indexed header s.now places.now) × (t < field_types) × ((rule_of t).width ≡ 4) }
-    ensures { result ≡ swapped 4 (value header s.now t) }
+use fields::Fields;
+use rules::Match;
+
+pub fn route_of(info: &Fields<'_>, ethertype: u16) -> Match
+    ensures { result ≡ route_of (header_of info.now.terms) info.now.bytes ethertype }
 {
-    wire::turned(fields::value(s, header, places, t), 4) as u32
-}
-
-pub fn route_of(s: &[u8], header: usize, places: &[usize; FIELD_TYPES], ethertype: u16) -> Match
-    requires { Indexed header s.now places.now }
-    ensures { result ≡ route_of header s.now ethertype }
-{
-    let has_group = fields::given(s, header, places, fields::GROUP_ID);
-    let group_id = super::word(s, header, places, fields::GROUP_ID);
+    let has_group = info.given(fields::GROUP_ID);
+    let group_id = info.word(fields::GROUP_ID);
     if addresses::is_ipv6(ethertype) {
-        let address = fields::wide_value(s, header, places, fields::DST_IPV6);
-        let mask = fields::wide_value(s, header, places, fields::DST_IPV6_MASK);
+        let address = info.be128(fields::DST_IPV6);
+        let mask = info.be128(fields::DST_IPV6_MASK);
         return Match::UnicastRouting {
             ethertype: ethertype,
             address_high: address.high,
@@ -34,8 +23,8 @@ pub fn route_of(s: &[u8], header: usize, places: &[usize; FIELD_TYPES], ethertyp
             group_id: group_id,
         };
     }
-    let address = ipv4(s, header, places, fields::DST_IP);
-    let mask = ipv4(s, header, places, fields::DST_IP_MASK);
+    let address = info.be32(fields::DST_IP);
+    let mask = info.be32(fields::DST_IP_MASK);
     Match::UnicastRouting {
         ethertype: ethertype,
         address_high: address as u64 * 0x100000000,
@@ -47,36 +36,27 @@ pub fn route_of(s: &[u8], header: usize, places: &[usize; FIELD_TYPES], ethertyp
 }
 
 // The other pair of fields is absent.
-fn other_absent(s: &[u8], header: usize, places: &[usize; FIELD_TYPES], ethertype: u16) -> bool
-    requires { Indexed header s.now places.now }
-    ensures { result ≡ other_absent header s.now ethertype }
+fn other_absent(info: &Fields<'_>, ethertype: u16) -> bool
+    ensures { result ≡ other_absent (header_of info.now.terms) info.now.bytes ethertype }
 {
     if addresses::is_ipv6(ethertype) {
-        return fields::absent(s, header, places, fields::DST_IP)
-            & fields::absent(s, header, places, fields::DST_IP_MASK);
+        return info.absent(fields::DST_IP) & info.absent(fields::DST_IP_MASK);
     }
-    fields::absent(s, header, places, fields::DST_IPV6)
-        & fields::absent(s, header, places, fields::DST_IPV6_MASK)
+    info.absent(fields::DST_IPV6) & info.absent(fields::DST_IPV6_MASK)
 }
 
-// Of a flow of table 30, the other pair is absent.
-pub fn pair_alone(
-    s: &[u8],
-    header: usize,
-    places: &[usize; FIELD_TYPES],
-    t: u64,
-    ethertype: u16,
-) -> bool
-    requires { (Indexed header s.now places.now) × (ethertype ≡ ethertype_in header s.now) }
-    ensures { result ≡ pair_alone header s.now t }
+/// Of a flow of table 30, the other pair is absent.
+pub fn pair_alone(info: &Fields<'_>, t: u64, ethertype: u16) -> bool
+    requires { ethertype ≡ ethertype_in (header_of info.now.terms) info.now.bytes }
+    ensures { result ≡ pair_alone (header_of info.now.terms) info.now.bytes t }
 {
     if t != 30 {
         return true;
     }
-    other_absent(s, header, places, ethertype)
+    other_absent(info, ethertype)
 }
 
-// Who reads its fields, by the family of its addresses.
+/// Who reads its fields, by the family of its addresses.
 pub fn user(ethertype: u16) -> u16
     ensures { result ≡ flow_user 30 ethertype }
 {

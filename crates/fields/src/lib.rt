@@ -1,17 +1,15 @@
-// The table of fields, and a CMD_INFO's fields looked up by it in the region's index. Every function is equal to a rule of `rules`;
-// `header` is how many header bytes a length counts.
+//! The table of fields, and the fields of a region looked up by it. Every function is equal to a rule of `rules`.
 
 #![tactic(auto)]
 
-ghost use Rattle.std.specs.Prelude.{◌≡◌, ℕ, ◌+◌, ◌*◌, ◌^◌, ◌≤◌, ◌<◌, get_or};
-ghost use Rattle.rules.specs.Bytes.{swapped};
-ghost use Rattle.rules.specs.declared.FieldRule.{FieldRule};
-ghost use Rattle.rules.specs.Fields.{rule_of, field, given, is_absent, value, right, has_user, field_right, fields_right};
-ghost use Rattle.tlv.specs.Index.{Indexed};
-ghost use Rattle.rules.specs.Limits.{field_types};
+ghost use Rattle.std.specs.Prelude.{◌≡◌};
+ghost use Rattle.rules.specs.Fields.{rule_of, right, has_user};
 
-use rules::{FIELD_TYPES, FieldRule, Found};
-use wire::Halves;
+use rules::{FieldRule, Found};
+
+mod region;
+
+pub use region::Fields;
 
 // The types of the fields.
 pub const TBL: u32 = 1;
@@ -318,65 +316,14 @@ static FIELDS: [FieldRule; 63] = [
     UNLISTED,
 ];
 
-// The rows, for whoever goes over them.
-fn table() -> &'static [FieldRule; 63]
-    ensures { (t : ℕ) (d : FieldRule) → t < 63 → get_or result.now t d ≡ rule_of t }
-{
-    &FIELDS
-}
-
+/// The row of a type. Types past the table are nobody's.
 pub fn rule_of(t: u32) -> FieldRule
     ensures { result ≡ rule_of t }
 {
     if t < 63 { FIELDS[t as usize] } else { NOTHING }
 }
 
-// What the region holds of a field, at the width of its row.
-pub fn field(s: &[u8], header: usize, places: &[usize; FIELD_TYPES], t: u32) -> Found
-    requires { (Indexed header s.now places.now) × (t < field_types) }
-    ensures { result ≡ field header s.now t }
-{
-    let rule = rule_of(t);
-    found::found(s, header, places, t, rule.width)
-}
-
-// The field stands there once, at its width.
-pub fn given(s: &[u8], header: usize, places: &[usize; FIELD_TYPES], t: u32) -> bool
-    requires { (Indexed header s.now places.now) × (t < field_types) }
-    ensures { result ≡ given header s.now t }
-{
-    found::is_at(field(s, header, places, t))
-}
-
-// Nothing of the field stands there, at any width.
-pub fn absent(s: &[u8], header: usize, places: &[usize; FIELD_TYPES], t: u32) -> bool
-    requires { (Indexed header s.now places.now) × (t < field_types) }
-    ensures { result ≡ is_absent (field header s.now t) }
-{
-    found::is_absent(field(s, header, places, t))
-}
-
-// The number of a field of eight bytes at most, 0 where it is not given.
-pub fn value(s: &[u8], header: usize, places: &[usize; FIELD_TYPES], t: u32) -> u64
-    requires { (Indexed header s.now places.now) × (t < field_types) × ((rule_of t).width ≤ 8) }
-    ensures { result ≡ value header s.now t }
-{
-    let rule = rule_of(t);
-    found::number_in(
-        s,
-        rule.width,
-        found::found(s, header, places, t, rule.width),
-    )
-}
-
-// The number of a field of 16 bytes, which is big-endian, 0 where it is not given.
-pub fn wide_value(s: &[u8], header: usize, places: &[usize; FIELD_TYPES], t: u32) -> Halves
-    requires { (Indexed header s.now places.now) × (t < field_types) × ((rule_of t).width ≡ 16) }
-    ensures { result.high * 2 ^ 64 + result.low ≡ swapped 16 (value header s.now t) }
-{
-    found::wide_in(s, field(s, header, places, t))
-}
-
+#[tactic(auto, unfolding(rules::specs::Fields::right))]
 fn right(needed: bool, f: Found) -> bool
     ensures { result ≡ right needed f }
 {
@@ -387,46 +334,10 @@ fn right(needed: bool, f: Found) -> bool
     }
 }
 
+/// Whether a set of users has this one.
+#[tactic(auto, unfolding(rules::specs::Fields::has_user))]
 pub fn has_user(set: u16, who: u16) -> bool
     ensures { result ≡ has_user set who }
 {
     set & who != 0
-}
-
-// A field that is used is right; one that is not used is skipped.
-fn field_right(
-    s: &[u8],
-    header: usize,
-    places: &[usize; FIELD_TYPES],
-    who: u16,
-    t: u32,
-    rule: FieldRule,
-) -> bool
-    requires { (Indexed header s.now places.now) × (t < field_types) × (rule ≡ rule_of t) }
-    ensures { result ≡ field_right header s.now who t }
-{
-    if !has_user(rule.uses, who) {
-        return true;
-    }
-    right(
-        has_user(rule.needs, who),
-        found::found(s, header, places, t, rule.width),
-    )
-}
-
-// No field is missing, repeated or of another width for who reads the region. No type past POP_VLAN is listed.
-pub fn fields_right(s: &[u8], header: usize, places: &[usize; FIELD_TYPES], who: u16) -> bool
-    requires { Indexed header s.now places.now }
-    ensures { result ≡ fields_right header s.now who }
-{
-    let rules = table();
-    let mut t = FIELD_TYPES as u32;
-    while 0 < t {
-        t -= 1;
-        let rule = rules[t as usize];
-        if !field_right(s, header, places, who, t, rule) {
-            return false;
-        }
-    }
-    true
 }

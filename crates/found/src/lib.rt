@@ -1,4 +1,4 @@
-// What the index of a region says of a type, and what a value holds. Every function is equal to a rule of `rules`.
+//! What the index of a region says of a type, and what a value holds. Every function is equal to a rule of `rules`.
 
 #![tactic(auto)]
 
@@ -9,12 +9,12 @@ ghost use Rattle.rules.specs.Fields.{is_at, is_absent, number_in, nest_in};
 ghost use Rattle.tlv.specs.Index.{Indexed};
 ghost use Rattle.rules.specs.Limits.{field_types};
 
-use rules::{FIELD_TYPES, Found};
-use tlv::reader;
+use rules::Found;
+use tlv::{Places, reader};
 use wire::Halves;
 
-// What the region holds of a type, at a width; width 0 is a nest, of any length. `header` is how many header bytes a length counts.
-pub fn found(s: &[u8], header: usize, places: &[usize; FIELD_TYPES], t: u32, width: u8) -> Found
+/// What the region holds of a type, at a width; width 0 is a nest, of any length. `header` is how many header bytes a length counts.
+pub fn found(s: &[u8], header: usize, places: &Places, t: u32, width: u8) -> Found
     requires { (Indexed header s.now places.now) × (t < field_types) }
     ensures { result ≡ lookup header s.now t width }
 {
@@ -33,30 +33,27 @@ pub fn found(s: &[u8], header: usize, places: &[usize; FIELD_TYPES], t: u32, wid
     }
 }
 
+/// One value of the type stands there, at the width.
+#[tactic(auto, unfolding(rules::specs::Fields::is_at))]
 pub fn is_at(f: Found) -> bool
     ensures { result ≡ is_at f }
 {
-    match f {
-        Found::At(_, _) => true,
-        Found::Absent => false,
-        Found::Fault => false,
-    }
+    matches!(f, Found::At(_, _))
 }
 
-// Nothing of the type stands there, at any width.
+/// Nothing of the type stands there, at any width.
+#[tactic(auto, unfolding(rules::specs::Fields::is_absent))]
 pub fn is_absent(f: Found) -> bool
     ensures { result ≡ is_absent f }
 {
-    match f {
-        Found::Absent => true,
-        Found::At(_, _) => false,
-        Found::Fault => false,
-    }
+    matches!(f, Found::Absent)
 }
 
-// The number in a value, 0 where there is none; of eight bytes at most.
+/// The number in a value, 0 where there is none; of eight bytes at most.
+#[tactic(auto, unfolding(rules::specs::Fields::number_in))]
 pub fn number_in(s: &[u8], width: u8, f: Found) -> u64
-    ensures { result ≡ number_in s.now (min width 8) f }
+    ensures value { result ≡ number_in s.now (min width 8) f }
+    ensures fits { result < 256 ^ min width 8 }
 {
     match f {
         Found::At(a, _) => wire::number_at(s, a, width as usize),
@@ -65,7 +62,8 @@ pub fn number_in(s: &[u8], width: u8, f: Found) -> u64
     }
 }
 
-// The big-endian number in a value of 16 bytes, 0 where there is none.
+/// The big-endian number in a value of 16 bytes, 0 where there is none.
+#[tactic(auto, unfolding(rules::specs::Fields::number_in, rules::specs::Bytes::swapped))]
 pub fn wide_in(s: &[u8], f: Found) -> Halves
     ensures { result.high * 2 ^ 64 + result.low ≡ swapped 16 (number_in s.now 16 f) }
 {
@@ -89,7 +87,8 @@ fn part_of(s: &[u8], at: usize, n: usize) -> &[u8]
     &s[at..at + n]
 }
 
-// The region in a value, empty where there is none.
+/// The region in a value, empty where there is none.
+#[tactic(auto, unfolding(rules::specs::Fields::nest_in))]
 pub fn nest_in(s: &[u8], f: Found) -> &[u8]
     ensures { result.now ≡ nest_in s.now f }
 {

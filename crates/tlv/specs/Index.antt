@@ -1,11 +1,10 @@
 -- An index of a region: a number for each type below 44, which says where the one value of that type starts, or that there is none, or
 -- more than one. A value starts at 8 or later, so 0 is left for none and 1 for more than one. h: as in the rules' Region.
-use Rattle.std.specs.Prelude.{ℕ, ◌-◌, ◌≤◌, ◌<◌, ◌≡◌, Bool, true, false, List, get_or, set, ltb, eqb}
+use Rattle.std.specs.Prelude.{ℕ, ◌-◌, ◌≤◌, ◌<◌, ◌≡◌, List, get_or, set, ltb, eqb}
 use Rattle.rules.specs.Choose.{choose}
 use Rattle.rules.specs.Bytes.{le_at}
 use Rattle.rules.specs.Region.{value_size, fits_width, lookup}
-use Rattle.rules.specs.declared.Step.{Step}
-use Rattle.rules.specs.declared.Step.TheVariants.{Next, End, Fault as NoTlv}
+use Rattle.rules.specs.declared.Tlv.{Tlv}
 use Rattle.rules.specs.declared.Found.{Found}
 use Rattle.rules.specs.declared.Found.TheVariants.{Absent, At, Fault}
 
@@ -23,22 +22,9 @@ found_at h s width place =
 unfoldable pub marked : ℕ → ℕ → ℕ
 marked place start = choose (eqb place 0) start 1
 
--- what a step adds to an index
-unfoldable pub noted : List ℕ → Step → List ℕ
-noted places (Next x) = choose (ltb x.kind 44) (set places x.kind (marked (get_or places x.kind 0) x.start)) places
-noted places End = places
-noted places NoTlv = places
-
--- a pass stops at the region's end and at a fault
-unfoldable pub stops : Step → Bool
-stops (Next x) = false
-stops End = true
-stops NoTlv = true
-
-unfoldable pub is_end : Step → Bool
-is_end (Next x) = false
-is_end End = true
-is_end NoTlv = false
+-- what a TLV adds to an index
+unfoldable pub noted : List ℕ → Tlv → List ℕ
+noted places x = choose (ltb x.kind 44) (set places x.kind (marked (get_or places x.kind 0) x.start)) places
 
 -- an index tells what its region holds of every type below 44; the length in front of each value counts the header
 pub record Indexed (h : ℕ) (s : List ℕ) (places : List ℕ) : Type 0 where

@@ -1,30 +1,28 @@
-// A region of TLVs in one pass: where the value of each type starts, and whether whole TLVs cover the region.
+//! Regions of TLVs: a reader of them, one at a time, and an index of a region, in one pass: where the value of each type starts.
 
 #![tactic(auto)]
 
-ghost use Rattle.std.specs.Prelude.{◌≡◌};
+ghost use Rattle.std.specs.Prelude.{◌≡◌, IfOk, is_ok};
 ghost use Rattle.rules.specs.Version.{header_bytes};
 ghost use Rattle.rules.specs.Region.{well_formed};
-ghost use Rattle.tlv.specs.Index.{marked, noted, stops, is_end, Indexed};
+ghost use Rattle.tlv.specs.Index.{marked, noted, Indexed};
 
-use rules::{FIELD_TYPES, Step};
+use rules::{FIELD_TYPES, Tlv};
 
 pub mod reader;
 
-// How many of its TLV's header bytes a length counts in a version: all 8 from version 2 on, none before.
+pub use reader::{Malformed, Tlvs};
+
+/// How many of its TLV's header bytes a length counts in a version: all 8 from version 2 on, none before.
 pub fn header_bytes(version: u16) -> usize
     ensures { result ≡ header_bytes version }
 {
     if 2 <= version { 8 } else { 0 }
 }
 
-// What a pass over a region gives. `places` has a number for each type below 44: 0 where the region has no value of that type, 1 where
-// it has more than one, else where its value starts, which is at 8 or later.
-#[derive(Clone, Copy)]
-pub struct Index {
-    pub places: [usize; FIELD_TYPES],
-    pub whole: bool,
-}
+/// Where the values of a region start, by their types below 44: 0 where the region has no value of that type, 1 where it has more than
+/// one, else where its value starts, which is at 8 or later.
+pub type Places = [usize; FIELD_TYPES];
 
 fn marked(place: usize, start: usize) -> usize
     ensures { result ≡ marked place start }
@@ -32,66 +30,29 @@ fn marked(place: usize, start: usize) -> usize
     if place == 0 { start } else { 1 }
 }
 
-// What a step adds to the places so far. A type past those is in no table and is skipped.
-fn note(places: &mut [usize; FIELD_TYPES], step: Step)
-    ensures { places.new ≡ noted places.old step }
+// What a TLV adds to the places so far. A type past those is in no table and is skipped.
+fn note(places: &mut Places, tlv: Tlv)
+    ensures { places.new ≡ noted places.old tlv }
 {
-    match step {
-        Step::Next(x) => {
-            let kind = x.kind;
-            if kind < FIELD_TYPES as u32 {
-                let t = kind as usize;
-                places[t] = marked(places[t], x.start);
-            }
-        }
-        Step::End => {}
-        Step::Fault => {}
+    let kind = tlv.kind;
+    if kind < FIELD_TYPES as u32 {
+        let t = kind as usize;
+        places[t] = marked(places[t], tlv.start);
     }
 }
 
-// A step that is no TLV stops a pass.
-pub fn stops(step: Step) -> bool
-    ensures { result ≡ stops step }
+/// The index of a region whose lengths count so many header bytes.
+///
+/// # Errors
+///
+/// The region is not well formed: whole TLVs do not cover it exactly.
+pub fn index_of(region: &[u8], header: usize) -> Result<Places, Malformed>
+    ensures right { IfOk result (λ places. Indexed header region.now places) }
+    ensures whole { is_ok result ≡ well_formed header region.now }
 {
-    match step {
-        Step::Next(_) => false,
-        Step::End => true,
-        Step::Fault => true,
-    }
-}
-
-// Of the steps that stop a pass, only the region's end leaves the region whole.
-pub fn is_end(step: Step) -> bool
-    ensures { result ≡ is_end step }
-{
-    match step {
-        Step::Next(_) => false,
-        Step::End => true,
-        Step::Fault => false,
-    }
-}
-
-fn closed(places: [usize; FIELD_TYPES], step: Step) -> Index
-    ensures { (result.places ≡ places) × (result.whole ≡ is_end step) }
-{
-    Index {
-        places: places,
-        whole: is_end(step),
-    }
-}
-
-// One reader goes over the region, and is kept in a local over the loop.
-pub fn index_of(s: &[u8], header: usize) -> Index
-    ensures { (Indexed header s.now result.places) × (result.whole ≡ well_formed header s.now) }
-{
-    let mut r = reader::new(s, 0);
     let mut places = [0; FIELD_TYPES];
-    loop {
-        let step = reader::next(r, header);
-        if stops(step) {
-            return closed(places, step);
-        }
-        note(&mut places, step);
-        r = reader::skip(r, step);
+    for tlv in Tlvs::new(header, region) {
+        note(&mut places, tlv?);
     }
+    Ok(places)
 }

@@ -1,11 +1,29 @@
-// A reader of a region, which holds the borrowed payload and a position. Its functions are thin: `step` and `after` do the work on a slice
-// and numbers. `header` is how many of its TLV's header bytes a length counts.
-ghost use Rattle.std.specs.Prelude.{◌≡◌, ◌≤◌, ◌<◌, ◌^◌};
-ghost use Rattle.rules.specs.Region.{value_size, filled, step_at, after};
+//! The TLVs of a region, one at a time. `header` is how many of its TLV's header bytes a length counts.
 
-use rules::{Step, Tlv};
+ghost use Rattle.std.specs.Prelude.{◌≡◌, ◌≤◌, ◌<◌, ◌^◌, List, Result, length};
+ghost use Rattle.std.specs.Iterator.{YieldsFirstBy, item_count};
+ghost use Rattle.rules.specs.declared.Tlv.{Tlv};
+ghost use Rattle.rules.specs.declared.Status.TheVariants.{Einval};
+ghost use Rattle.rules.specs.Region.{value_size, filled};
+ghost use Rattle.tlv.specs.declared.reader.Malformed.{Malformed};
+ghost use Rattle.tlv.specs.Reading.{front, left};
 
-// The length of a value, from its TLV's length field, which counts the header.
+use rules::{Status, Tlv};
+use std::marker::Model;
+
+/// Bytes of a region that are no whole TLV. A command with such a region is answered EINVAL.
+#[derive(Clone, Copy, Debug, PartialEq, Eq)]
+pub struct Malformed;
+
+impl From<Malformed> for Status {
+    ghost from_gives = { λ _ status. status ≡ Einval };
+
+    fn from(_: Malformed) -> Status {
+        Status::Einval
+    }
+}
+
+/// The length of a value, from its TLV's length field, which counts the header.
 pub fn value_size(header: usize, field: u16) -> usize
     requires { header ≤ field }
     ensures { result ≡ value_size header field }
@@ -20,73 +38,74 @@ fn filled(n: usize) -> usize
     (n + 7) / 8 * 8
 }
 
-// What stands at a position: a TLV that is whole with its fill, the region's end, or a fault.
-fn step(s: &[u8], header: usize, at: usize) -> Step
-    ensures { result ≡ step_at header s.now at }
+// The TLV at a position, if it stands there whole with its fill.
+fn front(header: usize, region: &[u8], at: usize) -> Result<Tlv, Malformed>
+    requires { at ≤ length region.now }
+    ensures { result ≡ front header region.now at }
 {
-    if at == s.len() {
-        return Step::End;
+    let room = (region.len() - at).checked_sub(8).ok_or(Malformed)?;
+    let size = usize::from(wire::le16(region, at + 4))
+        .checked_sub(header)
+        .ok_or(Malformed)?;
+    if room < filled(size) {
+        return Err(Malformed);
     }
-    if s.len() < 8 {
-        return Step::Fault;
-    }
-    if s.len() - 8 < at {
-        return Step::Fault;
-    }
-    let field = wire::le16(s, at + 4);
-    if (field as usize) < header {
-        return Step::Fault;
-    }
-    let size = value_size(header, field);
-    if s.len() < at + 8 + filled(size) {
-        return Step::Fault;
-    }
-    Step::Next(Tlv {
-        kind: wire::le32(s, at),
+    Ok(Tlv {
+        kind: wire::le32(region, at),
         start: at + 8,
-        size: size,
+        size,
     })
 }
 
-// Where the next step is made, after one at a position.
-fn after(at: usize, step: Step) -> usize
-    requires { after at step < 2 ^ 64 }
-    ensures { result ≡ after at step }
-{
-    match step {
-        Step::Next(x) => x.start + filled(x.size),
-        Step::End => at,
-        Step::Fault => at,
-    }
-}
-
-// A borrowed region and a position in it.
-#[derive(Clone, Copy)]
-pub struct Reader<'a> {
-    payload: &'a [u8],
+/// The TLVs of a region from a position on. Bytes that are no whole TLV are an error, and the last item.
+#[derive(Drop)]
+pub struct Tlvs<'a> {
+    header: usize,
+    region: &'a [u8],
     at: usize,
 }
 
-pub fn new<'a>(payload: &'a [u8], at: usize) -> Reader<'a>
-    ensures { (result.payload ≡ payload.entry) × (result.at ≡ at) }
-{
-    Reader { payload, at }
+impl<'a> Model for Tlvs<'a> {
+    ghost Value = { List (Result Tlv Malformed) };
+
+    ghost view = { λ r. left r.header r.region.now r.at };
+
+    ghost invariant = { λ r. r.at ≤ length r.region.now };
 }
 
-// The TLV at the position, the end or a fault.
-pub fn next<'a>(r: Reader<'a>, header: usize) -> Step
-    ensures { result ≡ step_at header r.entry.payload.now r.entry.at }
-{
-    step(r.payload, header, r.at)
+impl<'a> Tlvs<'a> {
+    /// All TLVs of a region.
+    pub fn new(header: usize, region: &'a [u8]) -> Tlvs<'a>
+        ensures { result ≡ left header region.now 0 }
+    {
+        Tlvs {
+            header,
+            region,
+            at: 0,
+        }
+    }
 }
 
-// The reader past the step that was read at its position.
-pub fn skip<'a>(r: Reader<'a>, step: Step) -> Reader<'a>
-    requires { after r.at step < 2 ^ 64 }
-    ensures { (result.payload ≡ r.entry.payload) × (result.at ≡ after r.entry.at step) }
-{
-    Reader {
-        payload: r.payload,
-        at: after(r.at, step),
+impl<'a> Iterator for Tlvs<'a> {
+    type Item = Result<Tlv, Malformed>;
+
+    ghost next_gives = { YieldsFirstBy (λ tlv. tlv) (λ rest. rest) };
+
+    ghost remaining = { item_count (λ rest. rest) };
+
+    fn next(&mut self) -> Option<Result<Tlv, Malformed>> {
+        if self.at == self.region.len() {
+            return None;
+        }
+        match front(self.header, self.region, self.at) {
+            Ok(tlv) => {
+                self.at = tlv.start + filled(tlv.size);
+                Some(Ok(tlv))
+            }
+            Err(e) => {
+                self.at = self.region.len();
+                Some(Err(e))
+            }
+        }
     }
 }

@@ -1,28 +1,27 @@
--- The loop keeps: the lengths below the one at hand were tried.
--- Assumes nothing.
-use Prim.Native.Nat.{◌^◌, ◌≤◌}
+use Rattle.std.proofs.Common.{◌≡◌, ◌≤◌, ◌+◌, ◌-◌, ◌^◌, subst, sym, ap, ◌∙◌, arith}
+use Rattle.std.specs.Int.Count.{count_leading_zeros}
+use Rattle.std.proofs.lemmas.Nat.{leading_le}
 use native.Mathlib.Nat.{pow-le-pow_right}
-use native.Mathlib.Omega.{arith}
 use lib.Dec.{lit<}
-use Rattle.addresses.proofs.Lengths.{tried_none, tried_fits, tried_here, tried_more, tried_all}
+use Rattle.addresses.proofs.Lengths.{length_found, no_length}
 use Rattle.addresses.proofs.length_of.Goals as goal
 
-pub loop-length-init : goal.loop-length-init
-loop-length-init c = (c.requires.1, tried_none c.requires.0 c.requires.2)
+pub overflow_sub-ones : goal.overflow_sub-ones
+overflow_sub-ones g c =
+    let w = g.A.Address.BITS in
+    let k = w - c.leading_ones-length.result in
+    let p : 2 ^ k ≤ 2 ^ w = pow-le-pow_right (lit< tt) (omega arith) in
+    rw (c.ones.ensures, c.ones-2.ensures, c.BITS.ensures, c.BITS-2.ensures) (omega arith)
 
-pub returns-then-mask-ones : goal.returns-then-mask-ones
-returns-then-mask-ones c = tried_here c.loop-length.invariant.1 c.loop-length-test.true c.if-mask-ones.true
+pub returns-then-to_u128-ones : goal.returns-then-to_u128-ones
+returns-then-to_u128-ones g c =
+    let w = g.A.Address.BITS in
+    let few : c.leading_ones-length.result ≤ w = rw c.leading_ones-length.ensures (leading_le w _) in
+    length_found w _ _ few (rw (c.ones.ensures, c.ones-2.ensures, c.BITS.ensures, c.BITS-2.ensures) at (sym c.to_u128.ensures.value ∙ c.if-to_u128-ones.true))
 
-pub overflow_add-ones : goal.overflow_add-ones
-overflow_add-ones c =
-    let l = c.loop-length.invariant in
-    let w = c.args.width in
-    let a = tried_fits l.1 c.loop-length-test.true in
-    let b : 2 ^ w ≤ 2 ^ 64 = pow-le-pow_right (lit< tt) l.0 in
-    record { fits = omega arith }
-
-pub loop-length-preserved : goal.loop-length-preserved
-loop-length-preserved c = let l = c.loop-length.invariant in (l.0, tried_more l.1 c.loop-length-test.true c.if-mask-ones.false)
-
-pub returns : goal.returns
-returns c = tried_all c.loop-length.invariant.1 (omega arith)
+pub returns-else-to_u128-ones : goal.returns-else-to_u128-ones
+returns-else-to_u128-ones g c =
+    let w = g.A.Address.BITS in
+    rw c.BITS-else-to_u128-ones.ensures
+    (no_length w _ _ c.leading_ones-length.ensures
+    (λ e. c.if-to_u128-ones.false (c.to_u128.ensures.value ∙ e ∙ sym (rw (c.ones.ensures, c.ones-2.ensures, c.BITS.ensures, c.BITS-2.ensures)))))

@@ -1,47 +1,61 @@
--- Each branch takes the rule's tests as far as its own; past the flow commands the rule is what is left of it (`past_flows`).
-use Rattle.rules.specs.declared.Command.TheVariants.{GroupAdd, GroupMod}
-use Rattle.rules.specs.Decode.{group_in, group_key_in, command_in}
-use Rattle.rules.specs.Choose.{choose}
-use lib.Dec.{eqb}
-use mathlib.Core.Path.{◌≡◌}
-use borrow.Author.Tests.{eq-eqb, ne_eqb}
+-- Each arm hands on the rule's answer for its kind, or the fault that it met.
+use Rattle.std.proofs.lemmas.Result.{err_from_is_err_and}
+use Rattle.rules.specs.Members.{pad}
+use Rattle.rules.specs.Decode.{command_in}
+use Rattle.rules.specs.declared.Command.TheVariants.{FlowAdd, FlowMod, FlowDel, GroupAdd, GroupMod, GroupDel}
+use Rattle.command.proofs.Answering.{plain_fault, plain, listing_fault, listing}
 use Rattle.command.proofs.command_in.Goals as goal
-use Rattle.command.proofs.command_in.Goals.{Else-c-eq-FLOW_DEL}
 
-pub returns-then-c-eq-FLOW_ADD : goal.returns-then-c-eq-FLOW_ADD
+pub returns-in_err-flow_in-in-FlowAdd : goal.returns-in_err-flow_in-in-FlowAdd
 unfolding command_in
-returns-then-c-eq-FLOW_ADD c = simp (eq-eqb _ _ c.if-c-eq-FLOW_ADD.true) c.flow_in.ensures
+returns-in_err-flow_in-in-FlowAdd c =
+    rw c.in-FlowAdd.is (plain_fault FlowAdd _ _ _ _ (c.flow_in.ensures FlowAdd) c.in_err-flow_in-in-FlowAdd.was (err_from_is_err_and c.from_residual.result c.from_residual.ensures.1))
 
-pub returns-then-c-eq-FLOW_MOD : goal.returns-then-c-eq-FLOW_MOD
+pub returns-in_ok-flow_in-in-FlowAdd : goal.returns-in_ok-flow_in-in-FlowAdd
+unfolding command_in pad
+returns-in_ok-flow_in-in-FlowAdd c = rw c.in-FlowAdd.is (plain FlowAdd _ _ _ (c.flow_in.ensures FlowAdd) c.in_ok-flow_in-in-FlowAdd.was)
+
+pub returns-in_err-flow_in-in-FlowMod : goal.returns-in_err-flow_in-in-FlowMod
 unfolding command_in
-returns-then-c-eq-FLOW_MOD c = simp (ne_eqb _ _ c.if-c-eq-FLOW_ADD.false, eq-eqb _ _ c.if-c-eq-FLOW_MOD.true) c.flow_in-then-c-eq-FLOW_MOD.ensures
+returns-in_err-flow_in-in-FlowMod c =
+    rw c.in-FlowMod.is (plain_fault FlowMod _ _ _ _ (c.flow_in-in-FlowMod.ensures FlowMod) c.in_err-flow_in-in-FlowMod.was (err_from_is_err_and c.from_residual-in_err-flow_in-in-FlowMod.result c.from_residual-in_err-flow_in-in-FlowMod.ensures.1))
 
-pub returns-then-c-eq-FLOW_DEL : goal.returns-then-c-eq-FLOW_DEL
+pub returns-in_ok-flow_in-in-FlowMod : goal.returns-in_ok-flow_in-in-FlowMod
+unfolding command_in pad
+returns-in_ok-flow_in-in-FlowMod c = rw c.in-FlowMod.is (plain FlowMod _ _ _ (c.flow_in-in-FlowMod.ensures FlowMod) c.in_ok-flow_in-in-FlowMod.was)
+
+pub returns-in_err-flow_key_in-in-FlowDel : goal.returns-in_err-flow_key_in-in-FlowDel
 unfolding command_in
-returns-then-c-eq-FLOW_DEL c =
-    simp (
-      ne_eqb _ _ c.if-c-eq-FLOW_ADD.false,
-      ne_eqb _ _ c.if-c-eq-FLOW_MOD.false,
-      eq-eqb _ _ c.if-c-eq-FLOW_DEL.true,
-    )
-    c.flow_key_in.ensures
+returns-in_err-flow_key_in-in-FlowDel c =
+    rw c.in-FlowDel.is (plain_fault FlowDel _ _ _ _ c.flow_key_in.ensures c.in_err-flow_key_in-in-FlowDel.was (err_from_is_err_and c.from_residual-in_err-flow_key_in-in-FlowDel.result c.from_residual-in_err-flow_key_in-in-FlowDel.ensures.1))
 
--- what decides past the flow commands
-past_flows : (c : Else-c-eq-FLOW_DEL)
-    → let a = c.args in
-    let s = a.s.now in
-    command_in a.terms a.c s
-    ≡ choose (eqb a.c 7) (group_in a.terms s GroupAdd) (choose (eqb a.c 8) (group_in a.terms s GroupMod) (group_key_in a.terms s))
+pub returns-in_ok-flow_key_in-in-FlowDel : goal.returns-in_ok-flow_key_in-in-FlowDel
+unfolding command_in pad
+returns-in_ok-flow_key_in-in-FlowDel c = rw c.in-FlowDel.is (plain FlowDel _ _ _ c.flow_key_in.ensures c.in_ok-flow_key_in-in-FlowDel.was)
+
+pub returns-in_err-group-in-GroupAdd : goal.returns-in_err-group-in-GroupAdd
 unfolding command_in
-past_flows c = simp (ne_eqb _ _ c.if-c-eq-FLOW_ADD.false, ne_eqb _ _ c.if-c-eq-FLOW_MOD.false, ne_eqb _ _ c.if-c-eq-FLOW_DEL.false)
+returns-in_err-group-in-GroupAdd c =
+    rw c.in-GroupAdd.is (listing_fault GroupAdd _ _ _ _ (c.group_in.ensures GroupAdd) c.in_err-group-in-GroupAdd.was (err_from_is_err_and c.from_residual-in_err-group-in-GroupAdd.result c.from_residual-in_err-group-in-GroupAdd.ensures.1))
 
-pub returns-then-c-eq-GROUP_ADD : goal.returns-then-c-eq-GROUP_ADD
-returns-then-c-eq-GROUP_ADD c = rw (past_flows (goal.at.returns-then-c-eq-GROUP_ADD c).Else-c-eq-FLOW_DEL) (simp (eq-eqb _ _ c.if-c-eq-GROUP_ADD.true) c.group_in.ensures)
+pub returns-in_ok-group-in-GroupAdd : goal.returns-in_ok-group-in-GroupAdd
+unfolding command_in pad
+returns-in_ok-group-in-GroupAdd c = rw c.in-GroupAdd.is (listing GroupAdd _ _ _ _ (c.group_in.ensures GroupAdd) c.in_ok-group-in-GroupAdd.was)
 
-pub returns-then-c-eq-GROUP_MOD : goal.returns-then-c-eq-GROUP_MOD
-returns-then-c-eq-GROUP_MOD c =
-    rw (past_flows (goal.at.returns-then-c-eq-GROUP_MOD c).Else-c-eq-FLOW_DEL) (simp (ne_eqb _ _ c.if-c-eq-GROUP_ADD.false, eq-eqb _ _ c.if-c-eq-GROUP_MOD.true) c.group_in-then-c-eq-GROUP_MOD.ensures)
+pub returns-in_err-group-in-GroupMod : goal.returns-in_err-group-in-GroupMod
+unfolding command_in
+returns-in_err-group-in-GroupMod c =
+    rw c.in-GroupMod.is (listing_fault GroupMod _ _ _ _ (c.group_in-in-GroupMod.ensures GroupMod) c.in_err-group-in-GroupMod.was (err_from_is_err_and c.from_residual-in_err-group-in-GroupMod.result c.from_residual-in_err-group-in-GroupMod.ensures.1))
 
-pub returns : goal.returns
-returns c =
-    rw (past_flows (goal.at.returns c).Else-c-eq-FLOW_DEL) (simp (ne_eqb _ _ c.if-c-eq-GROUP_ADD.false, ne_eqb _ _ c.if-c-eq-GROUP_MOD.false) c.group_key_in.ensures)
+pub returns-in_ok-group-in-GroupMod : goal.returns-in_ok-group-in-GroupMod
+unfolding command_in pad
+returns-in_ok-group-in-GroupMod c = rw c.in-GroupMod.is (listing GroupMod _ _ _ _ (c.group_in-in-GroupMod.ensures GroupMod) c.in_ok-group-in-GroupMod.was)
+
+pub returns-in_err-group_key_in-in-GroupDel : goal.returns-in_err-group_key_in-in-GroupDel
+unfolding command_in
+returns-in_err-group_key_in-in-GroupDel c =
+    rw c.in-GroupDel.is (plain_fault GroupDel _ _ _ _ c.group_key_in.ensures c.in_err-group_key_in-in-GroupDel.was (err_from_is_err_and c.from_residual-in_err-group_key_in-in-GroupDel.result c.from_residual-in_err-group_key_in-in-GroupDel.ensures.1))
+
+pub returns-in_ok-group_key_in-in-GroupDel : goal.returns-in_ok-group_key_in-in-GroupDel
+unfolding command_in pad
+returns-in_ok-group_key_in-in-GroupDel c = rw c.in-GroupDel.is (plain GroupDel _ _ _ c.group_key_in.ensures c.in_ok-group_key_in-in-GroupDel.was)

@@ -1,12 +1,9 @@
-use Prim.Native.Nat.{◌≤◌, ◌-◌}
 use mathlib.Core.Bool.{◌||◌}
 use mathlib.Core.Path.{◌≡◌}
-use lib.ListN.{length, drop}
+use lib.ListN.{drop}
 use Rattle.rules.specs.Members.{elem}
 use Rattle.members.proofs.contains.Given as goal
 
-abbrev pub invariant-loop-i : goal.invariant-loop-i
-invariant-loop-i l = (l.i ≤ length l.front) × ((l.there || elem l.low (drop l.i l.front)) ≡ elem l.low l.front) × (length l.front ≤ 62)
-
-abbrev pub decreases-loop-i : goal.decreases-loop-i
-decreases-loop-i l = length l.front - l.i
+-- what was found so far, or what is found from here on, is the answer
+abbrev pub invariant-loop-other : goal.invariant-loop-other
+invariant-loop-other l = (l.there || elem l.low (drop l.other-index l.other-items)) ≡ elem l.low l.other-items

@@ -1,43 +1,49 @@
--- Each turn by the laws of a list under way (Collect): it starts, goes on with a TLV, comes nearer to the end, and stops.
-use Rattle.std.proofs.Common.{◌∙◌, sym, ap, ℕ, ◌^◌, ◌||◌, List, ltb, arith}
-use Rattle.rules.specs.Region.{step_at}
-use Rattle.rules.specs.declared.Step.{Step}
-use Rattle.rules.proofs.Region.{after_fits}
-use Rattle.tlv.specs.Index.{stops}
-use Rattle.tlv.proofs.Indexing.{holds, fails}
-use Rattle.members.specs.Taking.{ended_at}
-use Rattle.members.proofs.Collect.{standing_starts, standing_on, standing_less, standing_ends}
+-- Each turn by the laws of a list under way (Collect): it starts, goes on with a member, and stops.
+use Rattle.std.proofs.Common.{sym, subst, ap, ◌∙◌, ◌∷◌, List, Ok}
+use Rattle.tlv.specs.Reading.{Read}
+use Rattle.members.proofs.Collect.{Reading, reading_starts, reading_takes, reading_fails, reading_stops, reading_ends, read_good, read_fault}
 use Rattle.members.proofs.read.Goals as goal
+use Rattle.members.proofs.read.Goals.{In_ok-tlv, In_ok-low}
 
-pub loop-r-init : goal.loop-r-init
-loop-r-init c = record {
-  payload = ap (λ r. r.now) c.new-r.ensures.0;
-  standing = rw c.new-r.ensures.1 (standing_starts c.args.header c.args.s.now c.args.vlan);
-}
+pub loop-tlv-init : goal.loop-tlv-init
+loop-tlv-init c =
+    let a = c.args in
+    let e = c.into_iter-tlv-iterator.ensures.into_iter_gives ∙ c.new-tlv-items.ensures in
+    subst (λ (rest : List Read). Reading a.header a.region.now a.vlan rest _ 0) (sym e) (reading_starts a.header a.region.now a.vlan)
 
-pub returns-then-halts : goal.returns-then-halts
-returns-then-halts c =
-    let e = c.next-step.ensures ∙ ap (λ (y : List ℕ). step_at c.args.header y c.loop-r.r.at) c.loop-r.invariant.payload in
-    let g = holds _ (ap (λ (t : Step). stops t || ltb 62 c.loop-r.n) (sym e) ∙ sym c.halts.ensures ∙ c.if-halts.true) in
-    c.ended.ensures ∙ ap (λ (t : Step). ended_at t c.loop-r.lows c.loop-r.n c.args.count) e ∙ standing_ends _ _ _ _ _ _ c.loop-r.invariant.standing c.args.count g
+pub returns-in_err-tlv : goal.returns-in_err-tlv
+returns-in_err-tlv c =
+    let a = c.args in
+    let f = read_fault _ _ c.ok.ensures.value c.in_err-tlv.was in
+    let e = c.in-Some.ensures.steps ∙ ap (λ (r : Read). r ∷ c.next.new.self) f.1 in
+    let i = subst (λ (rest : List Read). Reading a.header a.region.now a.vlan rest c.loop-tlv.lows c.loop-tlv.n) e c.loop-tlv.invariant in
+    c.from_residual.ensures ∙ reading_stops i a.count
 
-pub skip-r-requires : goal.skip-r-requires
-skip-r-requires c =
-    let e = c.next-step.ensures ∙ ap (λ (y : List ℕ). step_at c.args.header y c.loop-r.r.at) c.loop-r.invariant.payload in
-    let i = c.loop-r.invariant.standing.inside in
-    rw e (after_fits c.args.header (2 ^ 64) c.args.s.now c.loop-r.r.at (omega (arith, i)) (omega arith))
+-- a TLV is read
+reads : (c : In_ok-tlv) → let a = c.args in Reading a.header a.region.now a.vlan (Ok c.in_ok-tlv.tlv ∷ c.next.new.self) c.loop-tlv.lows c.loop-tlv.n
+reads c =
+    let a = c.args in
+    let e = c.in-Some.ensures.steps ∙ ap (λ (r : Read). r ∷ c.next.new.self) (read_good _ _ _ c.ok.ensures.value c.in_ok-tlv.was) in
+    subst (λ (rest : List Read). Reading a.header a.region.now a.vlan rest c.loop-tlv.lows c.loop-tlv.n) e c.loop-tlv.invariant
 
-pub loop-r-smaller : goal.loop-r-smaller
-loop-r-smaller c =
-    let e = c.next-step.ensures ∙ ap (λ (y : List ℕ). step_at c.args.header y c.loop-r.r.at) c.loop-r.invariant.payload in
-    let g = fails _ (ap (λ (t : Step). stops t || ltb 62 c.loop-r.n) (sym e) ∙ sym c.halts.ensures ∙ c.if-halts.false) in
-    rw (c.skip-r.ensures.1, e) (standing_less _ _ _ _ _ _ c.loop-r.invariant.standing g)
+pub returns-in_err-low : goal.returns-in_err-low
+returns-in_err-low c =
+    c.from_residual-in_err-low.ensures ∙ reading_fails (reads (goal.at.returns-in_err-low c).In_ok-tlv) c.args.count (sym c.in_err-low.was ∙ c.member.ensures)
 
-pub loop-r-preserved : goal.loop-r-preserved
-loop-r-preserved c =
-    let e = c.next-step.ensures ∙ ap (λ (y : List ℕ). step_at c.args.header y c.loop-r.r.at) c.loop-r.invariant.payload in
-    let g = fails _ (ap (λ (t : Step). stops t || ltb 62 c.loop-r.n) (sym e) ∙ sym c.halts.ensures ∙ c.if-halts.false) in
-    record {
-      payload = ap (λ r. r.now) c.skip-r.ensures.0 ∙ c.loop-r.invariant.payload;
-      standing = rw (c.skip-r.ensures.1, c.add-n.ensures.0, c.add-n.ensures.1, e) (standing_on _ _ _ _ _ _ c.loop-r.invariant.standing g);
-    }
+pub bounds-lows-n : goal.bounds-lows-n
+bounds-lows-n c = (reading_takes (reads (goal.at.bounds-lows-n c).In_ok-tlv) c.in_ok-low.low (sym c.in_ok-low.was ∙ c.member.ensures)).0
+
+pub loop-tlv-preserved : goal.loop-tlv-preserved
+loop-tlv-preserved c = (reading_takes (reads (goal.at.loop-tlv-preserved c).In_ok-tlv) c.in_ok-low.low (sym c.in_ok-low.was ∙ c.member.ensures)).1
+
+pub returns-then-count-n : goal.returns-then-count-n
+returns-then-count-n c =
+    let a = c.args in
+    let i = subst (λ (rest : List Read). Reading a.header a.region.now a.vlan rest c.loop-tlv.lows c.loop-tlv.n) c.in-None.ensures.steps.0 c.loop-tlv.invariant in
+    rw c.if-count-n.true at (reading_ends i a.count)
+
+pub returns-else-count-n : goal.returns-else-count-n
+returns-else-count-n c =
+    let a = c.args in
+    let i = subst (λ (rest : List Read). Reading a.header a.region.now a.vlan rest c.loop-tlv.lows c.loop-tlv.n) c.in-None.ensures.steps.0 c.loop-tlv.invariant in
+    rw c.if-count-n.false at (reading_ends i a.count)

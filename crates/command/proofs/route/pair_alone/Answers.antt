@@ -8,4 +8,4 @@ returns-then-t-ne30 c = simp (ne_eqb _ _ c.if-t-ne30.true)
 
 pub returns : goal.returns
 unfolding pair_alone
-returns c = simp (eq-eqb _ _ c.if-t-ne30.false, ← c.requires.1) c.other_absent.ensures
+returns c = simp (eq-eqb _ _ c.if-t-ne30.false, ← c.requires) c.other_absent.ensures
