@@ -84,15 +84,13 @@ fn flow_step(
     requires { (so_far.size ≤ large) × (so_far.count ≤ large) }
     ensures { Steps cookie_of (flow_run command there (live_flows other_count other.now)) (live_flows count rows.now) result so_far started key out.new out.old }
 {
-    let p = picking::flow_after(rows, count, started, key);
-    let at = p.at;
-    if p.live <= at {
+    let Some(at) = picking::next_place(&rows[..], count, started, key) else {
         return Step {
             listed: so_far,
             more: false,
             key: key,
         };
-    }
+    };
     let e = rows::entry_of(rows[at]);
     let mut listed = so_far;
     if picking::picks_flow(there, e, other, other_count) {
@@ -165,16 +163,15 @@ fn group_step(
     ensures steps { Steps id_of (group_run command there (live_groups other_count other_heads.now other_members.now)) (live_groups count heads.now members.now) result so_far started key out.new out.old }
     ensures key_bound { result.key < 4294967296 }
 {
-    let p = picking::group_after(heads, members, count, started, key as u32);
-    let at = p.at;
-    if p.live <= at {
+    let lows = &members[..];
+    let Some(at) = picking::next_place(&heads[..], count, started, key) else {
         return Step {
             listed: so_far,
             more: false,
             key: key,
         };
-    }
-    let e = rows::group_of(heads[at], members[at]);
+    };
+    let e = rows::group_of(heads[at], lows[at]);
     let id = e.id as u64;
     let mut listed = so_far;
     if picking::picks_group(there, e, other_heads, other_members, other_count) {
