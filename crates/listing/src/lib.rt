@@ -86,15 +86,13 @@ fn flow_step(
     requires { (so_far.size ≤ large) × (so_far.count ≤ large) }
     ensures { Steps cookie_of (flow_run command there (live_flows other_counts.flows other.now.flows)) (live_flows counts.flows places.now.flows) result so_far started key out.new out.old }
 {
-    let p = picking::flow_after(&places.flows, counts.flows, started, key);
-    let at = p.at;
-    if p.live <= at {
+    let Some(at) = picking::next_place(&places.flows[..], counts.flows, started, key) else {
         return Step {
             listed: so_far,
             more: false,
             key: key,
         };
-    }
+    };
     let e = rows::entry_of(places.flows[at]);
     let mut listed = so_far;
     if picking::picks_flow(there, e, &other.flows, other_counts.flows) {
@@ -165,22 +163,15 @@ fn group_step(
     ensures steps { Steps id_of (group_run command there (live_groups other_counts.groups other.now.heads other.now.members)) (live_groups counts.groups places.now.heads places.now.members) result so_far started key out.new out.old }
     ensures key_bound { result.key < 4294967296 }
 {
-    let p = picking::group_after(
-        &places.heads,
-        &places.members,
-        counts.groups,
-        started,
-        key as u32,
-    );
-    let at = p.at;
-    if p.live <= at {
+    let lows = &places.members[..];
+    let Some(at) = picking::next_place(&places.heads[..], counts.groups, started, key) else {
         return Step {
             listed: so_far,
             more: false,
             key: key,
         };
-    }
-    let e = rows::group_of(places.heads[at], places.members[at]);
+    };
+    let e = rows::group_of(places.heads[at], lows[at]);
     let id = e.id as u64;
     let mut listed = so_far;
     if picking::picks_group(there, e, &other.heads, &other.members, other_counts.groups) {

@@ -1,18 +1,15 @@
--- Entries compared field by field, and members one by one: the loop has come to i, and what is left decides (`Comparing`).
+-- Entries compared field by field, and members one by one: what a derived `==` computes, and the rules' comparison in their own order.
 -- Assumes nothing.
-use Prim.Native.Nat.{ℕ, suc, ◌+◌, ◌<◌, ◌≤◌}
+use Prim.Native.Nat.{ℕ}
 use mathlib.Core.Bool.{Bool, true, false, ◌&&◌, beq}
-use mathlib.Core.Path.{◌≡◌, refl, sym, ◌∙◌}
-use mathlib.Core.List.{List}
-use native.Mathlib.Omega.{arith}
-use native.Mathlib.Numerals.{add-one}
+use mathlib.Core.Path.{◌≡◌, refl, ap}
+use mathlib.Core.List.{List, [], ◌∷◌}
 use lib.Dec.{eqb}
-use lib.ListN.{length, drop, get_or, drop_of_length-le}
-use lib.Seq.{drop-cons}
-use borrow.Author.Tests.{eq-eqb, ne_eqb}
+use lib.Pointwise.{pointwise}
 use Rattle.rules.specs.Undo.{same_bit, same_list, same_flow, same_group}
 use Rattle.rules.specs.declared.FlowEntry.{FlowEntry}
 use Rattle.rules.specs.declared.GroupEntry.{GroupEntry}
+use Rattle.rules.proofs.Cases.{by_test}
 
 beq_same : (a b : Bool) → beq a b ≡ same_bit a b
 unfolding same_bit
@@ -21,48 +18,87 @@ beq_same true false = refl
 beq_same false true = refl
 beq_same false false = refl
 
+and_false : (b : Bool) → b && false ≡ false
+and_false true = refl
+and_false false = refl
+
+members_same : (a b : List ℕ) → pointwise eqb a b ≡ same_list a b
+unfolding same_list
+members_same [] [] = refl
+members_same [] (y ∷ b) = refl
+members_same (x ∷ a) [] = refl
+members_same (x ∷ a) (y ∷ b) = ap (λ (r : Bool). eqb x y && r) (members_same a b)
+
 pub flow_same : (a b : FlowEntry)
-    → eqb a.cookie b.cookie && eqb a.dst_mac b.dst_mac && eqb a.priority b.priority && eqb a.hardtime b.hardtime
-    && eqb a.idletime b.idletime && eqb a.in_pport b.in_pport && eqb a.in_pport_mask b.in_pport_mask
-    && eqb a.group_id b.group_id && eqb a.table b.table && eqb a.goto_tbl b.goto_tbl
-    && eqb a.vlan_id b.vlan_id && eqb a.new_vlan_id b.new_vlan_id && eqb a.ethertype b.ethertype
-    && eqb a.prefix b.prefix && eqb a.address_high b.address_high && eqb a.address_low b.address_low
-    && beq a.has_mac b.has_mac && beq a.has_group b.has_group
+    → eqb a.cookie b.cookie && (eqb a.dst_mac b.dst_mac && (eqb a.address_high b.address_high && (eqb a.address_low b.address_low && (eqb a.priority b.priority && (eqb a.hardtime b.hardtime && (eqb a.idletime b.idletime && (eqb a.in_pport b.in_pport && (eqb a.in_pport_mask b.in_pport_mask && (eqb a.group_id b.group_id && (eqb a.table b.table && (eqb a.goto_tbl b.goto_tbl && (eqb a.vlan_id b.vlan_id && (eqb a.new_vlan_id b.new_vlan_id && (eqb a.ethertype b.ethertype && (eqb a.prefix b.prefix && (beq a.has_mac b.has_mac && beq a.has_group b.has_group))))))))))))))))
     ≡ same_flow a b
 unfolding same_flow
-flow_same a b = rw (beq_same a.has_mac b.has_mac, beq_same a.has_group b.has_group) refl
+flow_same a b =
+    by_test (eqb a.cookie b.cookie)
+    (λ p0.
+    by_test (eqb a.dst_mac b.dst_mac)
+    (λ p1.
+    by_test (eqb a.address_high b.address_high)
+    (λ p2.
+    by_test (eqb a.address_low b.address_low)
+    (λ p3.
+    by_test (eqb a.priority b.priority)
+    (λ p4.
+    by_test (eqb a.hardtime b.hardtime)
+    (λ p5.
+    by_test (eqb a.idletime b.idletime)
+    (λ p6.
+    by_test (eqb a.in_pport b.in_pport)
+    (λ p7.
+    by_test (eqb a.in_pport_mask b.in_pport_mask)
+    (λ p8.
+    by_test (eqb a.group_id b.group_id)
+    (λ p9.
+    by_test (eqb a.table b.table)
+    (λ p10.
+    by_test (eqb a.goto_tbl b.goto_tbl)
+    (λ p11.
+    by_test (eqb a.vlan_id b.vlan_id)
+    (λ p12.
+    by_test (eqb a.new_vlan_id b.new_vlan_id)
+    (λ p13.
+    by_test (eqb a.ethertype b.ethertype)
+    (λ p14.
+    by_test (eqb a.prefix b.prefix)
+    (λ p15.
+    simp (p0, p1, p2, p3, p4, p5, p6, p7, p8, p9, p10, p11, p12, p13, p14, p15, beq_same))
+    (λ p15. simp (p0, p1, p2, p3, p4, p5, p6, p7, p8, p9, p10, p11, p12, p13, p14, p15, and_false)))
+    (λ p14. simp (p0, p1, p2, p3, p4, p5, p6, p7, p8, p9, p10, p11, p12, p13, p14, and_false)))
+    (λ p13. simp (p0, p1, p2, p3, p4, p5, p6, p7, p8, p9, p10, p11, p12, p13, and_false)))
+    (λ p12. simp (p0, p1, p2, p3, p4, p5, p6, p7, p8, p9, p10, p11, p12, and_false)))
+    (λ p11. simp (p0, p1, p2, p3, p4, p5, p6, p7, p8, p9, p10, p11, and_false)))
+    (λ p10. simp (p0, p1, p2, p3, p4, p5, p6, p7, p8, p9, p10, and_false)))
+    (λ p9. simp (p0, p1, p2, p3, p4, p5, p6, p7, p8, p9, and_false)))
+    (λ p8. simp (p0, p1, p2, p3, p4, p5, p6, p7, p8, and_false)))
+    (λ p7. simp (p0, p1, p2, p3, p4, p5, p6, p7, and_false)))
+    (λ p6. simp (p0, p1, p2, p3, p4, p5, p6, and_false)))
+    (λ p5. simp (p0, p1, p2, p3, p4, p5, and_false)))
+    (λ p4. simp (p0, p1, p2, p3, p4, and_false)))
+    (λ p3. simp (p0, p1, p2, p3, and_false)))
+    (λ p2. simp (p0, p1, p2, and_false)))
+    (λ p1. simp (p0, p1, and_false)))
+    (λ p0. simp (p0))
 
-pub group_same : (a b : GroupEntry) {m : Bool} → m ≡ same_list a.members b.members
-    → eqb a.id b.id && beq a.pop_vlan b.pop_vlan && eqb a.member_count b.member_count
-    && eqb a.vlan_id b.vlan_id && eqb a.src_mac b.src_mac && eqb a.dst_mac b.dst_mac && m
+pub group_same : (a b : GroupEntry)
+    → eqb a.id b.id && (beq a.pop_vlan b.pop_vlan && (eqb a.member_count b.member_count && (eqb a.vlan_id b.vlan_id && (eqb a.src_mac b.src_mac && (eqb a.dst_mac b.dst_mac && pointwise eqb a.members b.members)))))
     ≡ same_group a b
 unfolding same_group
-group_same a b e = rw (e, beq_same a.pop_vlan b.pop_vlan) refl
-
--- ---- Members
-
-pub record Comparing (a b : List ℕ) (i : ℕ) : Type 0 where
-  pub within : i ≤ 62
-  pub rest : same_list a b ≡ same_list (drop i a) (drop i b)
-
-module _ {a b : List ℕ} where
-  pub compare_starts : Comparing a b 0
-  compare_starts = record { within = omega arith; rest = refl }
-
-  module _ {i : ℕ} (c : Comparing a b i) (la : length a ≡ 62) (lb : length b ≡ 62) where
-    -- what is left begins with the members at i
-    next : i < 62 → same_list a b ≡ eqb (get_or a i 0) (get_or b i 0) && same_list (drop (suc i) a) (drop (suc i) b)
-    unfolding same_list
-    next h = c.rest ∙ rw (drop-cons a i 0 (omega arith), drop-cons b i 0 (omega arith)) refl
-
-    pub compare_differs : i < 62 → (get_or a i 0 ≡ get_or b i 0 → ⊥) → false ≡ same_list a b
-    compare_differs h n = sym (next h ∙ simp (ne_eqb (get_or a i 0) (get_or b i 0) n))
-
-    pub compare_goes_on : i < 62 → get_or a i 0 ≡ get_or b i 0 → Comparing a b (i + 1)
-    compare_goes_on h e =
-        record { within = omega arith; rest = rw add-one (next h ∙ simp (eq-eqb (get_or a i 0) (get_or b i 0) e)) }
-
-    pub compare_ends : 62 ≤ i → true ≡ same_list a b
-    unfolding same_list
-    compare_ends h =
-        sym (c.rest ∙ rw (drop_of_length-le a {i = i} (omega arith), drop_of_length-le b {i = i} (omega arith)) refl)
+group_same a b =
+    by_test (eqb a.id b.id)
+    (λ p0. by_test (same_bit a.pop_vlan b.pop_vlan)
+    (λ p1. by_test (eqb a.member_count b.member_count)
+    (λ p2. by_test (eqb a.vlan_id b.vlan_id)
+    (λ p3. by_test (eqb a.src_mac b.src_mac)
+    (λ p4. by_test (eqb a.dst_mac b.dst_mac)
+    (λ p5. simp (p0, beq_same, p1, p2, p3, p4, p5, members_same))
+    (λ p5. simp (p0, beq_same, p1, p2, p3, p4, p5, and_false)))
+    (λ p4. simp (p0, beq_same, p1, p2, p3, p4, and_false)))
+    (λ p3. simp (p0, beq_same, p1, p2, p3, and_false)))
+    (λ p2. simp (p0, beq_same, p1, p2, and_false)))
+    (λ p1. simp (p0, beq_same, p1)))
+    (λ p0. simp (p0))

@@ -16,7 +16,7 @@ use Rattle.rules.specs.Places.{places, live}
 use Rattle.rules.specs.Tables.{live_flows, add_status, held_status}
 use Rattle.rules.specs.declared.FlowEntry.{FlowEntry}
 use Rattle.rules.specs.declared.Status.TheVariants.{Ok, Enoent, Enomem, Eexist}
-use Rattle.tables.proofs.Slots.{Shifted, take_without_end, take_without, take_live}
+use Rattle.tables.proofs.Slots.{take_live}
 use Rattle.tables.proofs.Commands.{refused, done}
 use Rattle.plain.specs.Store.{Stands, Added, Modded, Deleted}
 use Rattle.plain.proofs.Standing.{stands_lt, put_at, taken_at}
@@ -72,17 +72,12 @@ module _ {count : ℕ} {rows : List (List ℕ)} {n at : ℕ} {held : Bool} where
     not_there h = refused (live entry_in) Enoent (λ z. omega arith) (simp (s.stands_is, h))
 
   module _ {k : ℕ} (s : Stands k n count rows at held) where
-    pub deleted : {i last : ℕ} {moved : List (List ℕ)} → held ≡ true → last ≡ n - 1 → Shifted 256 at last at i rows moved → last ≤ i
-        → Deleted (places count rows) k Ok (places last moved)
+    pub deleted : (moved : List (List ℕ)) → held ≡ true → take (n - 1) moved ≡ without at (take n rows)
+        → Deleted (places count rows) k Ok (places (n - 1) moved)
     unfolding held_status live
-    deleted {i} {last} {moved} h m w g =
-        let b = held_lt s h in
-        let t : suc last ≡ n = omega arith in
-        let l : take (suc last) rows ≡ take count rows = ap (λ m. take m rows) (t ∙ live_rows s) ∙ take_live count rows in
-        let j : i ≡ last = omega arith in
-        let r = rw j at w.rest in
-        let x : take last moved ≡ without at (take count rows) =
-        sym (take_without_end last moved) ∙ rw (r, take_without last at rows (omega arith), l) refl in
+    deleted moved h o =
+        let x : take (n - 1) moved ≡ without at (take count rows) =
+        o ∙ ap (without at) (ap (λ m. take m rows) (live_rows s) ∙ take_live count rows) in
         done (live entry_in) (simp (s.stands_is, h))
         (ap (map entry_in) x
         ∙ map_without entry_in at (take count rows)

@@ -5,7 +5,21 @@ ghost use Rattle.rules.specs.Places.{places};
 ghost use Rattle.plain.specs.Store.{Stands, Added, Modded, Deleted};
 
 use rules::{FlowEntry, FlowRows, MAX_FLOWS, Status};
-use tables::{Counted, Place};
+
+// Where a cookie stands or belongs, how many flows are live, and whether it stands there.
+#[derive(Clone, Copy)]
+pub struct Place {
+    pub at: usize,
+    pub live: usize,
+    pub held: bool,
+}
+
+// A command's status, and the number of live flows after it.
+#[derive(Clone, Copy)]
+pub struct Counted {
+    pub status: Status,
+    pub count: usize,
+}
 
 // The first of the live flows that has this cookie, or behind the last. `all` tells how many places there are.
 pub fn find(rows: &FlowRows, count: usize, cookie: u64) -> Place
@@ -84,17 +98,10 @@ pub fn del(rows: &mut FlowRows, count: usize, cookie: u64) -> Counted
     let p = find(rows, count, cookie);
     let n = p.live;
     if p.held {
-        let last = n - 1;
-        let mut i = p.at;
-        while i < last {
-            let j = i + 1;
-            let f = rows[j];
-            rows[i] = f;
-            i = j;
-        }
+        tables::close(&mut rows[..], n, p.at);
         return Counted {
             status: Status::Ok,
-            count: last,
+            count: n - 1,
         };
     }
     Counted {
