@@ -74,15 +74,13 @@ pub fn turned(v: u64, n: u8) -> u64
     requires { n ≤ 8 }
     ensures { result ≡ swapped n v }
 {
-    let mut left = n;
     let mut rest = v;
-    let mut r = 0;
-    while 0 < left {
-        left -= 1;
-        r = r * 256 + rest % 256;
+    let mut turned = 0;
+    for _done in 0..n {
+        turned = turned * 256 + rest % 256;
         rest = rest / 256;
     }
-    r
+    turned
 }
 
 pub fn be32(s: &[u8], at: usize) -> u32
@@ -123,8 +121,10 @@ pub fn be128(s: &[u8], at: usize) -> Halves
 pub fn inside(s: &[u8], at: u64, n: u64) -> bool
     ensures { result ≡ inside at n s.now }
 {
-    let size = s.len() as u64;
-    if at <= size { n <= size - at } else { false }
+    match at.checked_add(n) {
+        Some(end) => end <= s.len() as u64,
+        None => false,
+    }
 }
 
 // Writes v as n little-endian bytes from a position on, where these are inside, and nothing where not.
@@ -132,12 +132,10 @@ pub fn put(s: &mut [u8], at: usize, n: usize, v: u64)
     ensures { s.new ≡ put at n v s.old }
 {
     if inside(s, at as u64, n as u64) {
-        let mut i = 0;
         let mut rest = v;
-        while i < n {
-            s[at + i] = (rest % 256) as u8;
+        for i in at..at + n {
+            s[i] = (rest % 256) as u8;
             rest = rest / 256;
-            i += 1;
         }
     }
 }

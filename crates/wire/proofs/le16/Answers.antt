@@ -5,4 +5,4 @@ use Rattle.wire.proofs.le16.Goals as goal
 pub overflow_cast-result : goal.overflow_cast-result
 overflow_cast-result c =
     let a = c.args in
-    omega (arith, le_at_below 2 a.s.now a.at (λ j. (c.shared_slice_known-1.given j).fits), c.number_at.ensures)
+    omega (arith, le_at_below 2 a.s.now a.at (λ j. (c.type_inv.s j).fits), c.number_at.ensures)
