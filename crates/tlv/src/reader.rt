@@ -44,14 +44,14 @@ fn front(header: usize, region: &[u8], at: usize) -> Result<Tlv, Malformed>
     ensures { result ≡ front header region.now at }
 {
     let room = (region.len() - at).checked_sub(8).ok_or(Malformed)?;
-    let size = usize::from(wire::le16(region, at + 4))
+    let size = usize::from(wire::le::<u16>(region, at + 4))
         .checked_sub(header)
         .ok_or(Malformed)?;
     if room < filled(size) {
         return Err(Malformed);
     }
     Ok(Tlv {
-        kind: wire::le32(region, at),
+        kind: wire::le(region, at),
         start: at + 8,
         size,
     })

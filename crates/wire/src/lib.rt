@@ -7,6 +7,10 @@ ghost use Rattle.std.specs.Prelude.{◌≡◌, min, ◌+◌, ◌*◌, ◌^◌, �
 ghost use Rattle.rules.specs.Bytes.{le, le_at, swap16, swapped, inside};
 ghost use Rattle.wire.specs.Put.{put};
 
+mod number;
+
+pub use number::Number;
+
 fn wide(b: u8) -> u64
     ensures { result ≡ b }
 {
@@ -14,7 +18,7 @@ fn wide(b: u8) -> u64
 }
 
 // The little-endian number of the first n bytes, eight at most.
-fn number(s: &[u8], n: usize) -> u64
+fn front(s: &[u8], n: usize) -> u64
     ensures { result ≡ le (min n 8) s.now }
 {
     let mut k = numbers::min(numbers::min(n, 8), s.len());
@@ -31,22 +35,10 @@ pub fn number_at(s: &[u8], at: usize, n: usize) -> u64
     ensures { result ≡ le_at (min n 8) s.now at }
 {
     if at <= s.len() {
-        number(&s[at..], n)
+        front(&s[at..], n)
     } else {
         0
     }
-}
-
-pub fn le16(s: &[u8], at: usize) -> u16
-    ensures { result ≡ le_at 2 s.now at }
-{
-    number_at(s, at, 2) as u16
-}
-
-pub fn le32(s: &[u8], at: usize) -> u32
-    ensures { result ≡ le_at 4 s.now at }
-{
-    number_at(s, at, 4) as u32
 }
 
 // A MAC, which stands in wire order: its first byte is the lowest.
@@ -56,17 +48,25 @@ pub fn le48(s: &[u8], at: usize) -> u64
     number_at(s, at, 6)
 }
 
-pub fn le64(s: &[u8], at: usize) -> u64
-    ensures { result ≡ le_at 8 s.now at }
-{
-    number_at(s, at, 8)
-}
-
 pub fn be16(s: &[u8], at: usize) -> u16
     ensures { result ≡ swap16 (le_at 2 s.now at) }
 {
-    let v = le16(s, at);
+    let v: u16 = le(s, at);
     v % 256 * 256 + v / 256
+}
+
+/// The little-endian number at a position, as its type tells how many bytes it has.
+pub fn le<T: Number>(s: &[u8], at: usize) -> T
+    ensures { T.value result ≡ le_at T.WIDTH s.now at }
+{
+    T::narrowed(number_at(s, at, T::WIDTH as usize))
+}
+
+/// The big-endian number at a position, as its type tells how many bytes it has.
+pub fn be<T: Number>(s: &[u8], at: usize) -> T
+    ensures { T.value result ≡ swapped T.WIDTH (le_at T.WIDTH s.now at) }
+{
+    T::narrowed(turned(number_at(s, at, T::WIDTH as usize), T::WIDTH))
 }
 
 // The number whose n bytes are those of v the other way round: the lowest of these becomes the highest.
@@ -81,18 +81,6 @@ pub fn turned(v: u64, n: u8) -> u64
         rest = rest / 256;
     }
     turned
-}
-
-pub fn be32(s: &[u8], at: usize) -> u32
-    ensures { result ≡ swapped 4 (le_at 4 s.now at) }
-{
-    turned(number_at(s, at, 4), 4) as u32
-}
-
-pub fn be64(s: &[u8], at: usize) -> u64
-    ensures { result ≡ swapped 8 (le_at 8 s.now at) }
-{
-    turned(number_at(s, at, 8), 8)
 }
 
 // A number of 16 bytes by its two halves.
@@ -112,8 +100,8 @@ pub fn be128(s: &[u8], at: usize) -> Halves
     }
     let value = &s[at..];
     Halves {
-        high: be64(value, 0),
-        low: be64(value, 8),
+        high: be(value, 0),
+        low: be(value, 8),
     }
 }
 
