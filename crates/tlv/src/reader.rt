@@ -24,6 +24,7 @@ impl From<Malformed> for Status {
 }
 
 /// The length of a value, from its TLV's length field, which counts the header.
+#[tactic(auto, unfolding(rules::specs::Region::value_size))]
 pub fn value_size(header: usize, field: u16) -> usize
     requires { header ≤ field }
     ensures { result ≡ value_size header field }
@@ -31,6 +32,7 @@ pub fn value_size(header: usize, field: u16) -> usize
     field as usize - header
 }
 
+#[tactic(auto, unfolding(rules::specs::Region::filled))]
 fn filled(n: usize) -> usize
     requires { filled n < 2 ^ 64 }
     ensures { result ≡ filled n }

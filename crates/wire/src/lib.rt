@@ -1,5 +1,5 @@
-// Numbers in a slice of bytes, and whether a range is inside one. Nothing here has a `requires`: bytes past the end read as 0,
-// and a number that does not fit inside is not written.
+//! Numbers in a slice of bytes, and whether a range is inside one. Nothing that reads or writes a slice has a `requires`: bytes past the end
+//! read as 0, and a number that does not fit inside is not written.
 
 #![tactic(auto)]
 
@@ -17,7 +17,7 @@ fn wide(b: u8) -> u64
     b as u64
 }
 
-// The little-endian number of the first n bytes, eight at most.
+// The little-endian number of the first n bytes, eight at most. From the last byte to the first, so that no power of 256 is kept.
 fn front(s: &[u8], n: usize) -> u64
     ensures { result ≡ le (min n 8) s.now }
 {
@@ -30,7 +30,7 @@ fn front(s: &[u8], n: usize) -> u64
     v
 }
 
-// The little-endian number of n bytes at a position, eight at most.
+/// The little-endian number of n bytes at a position, eight at most.
 pub fn number_at(s: &[u8], at: usize, n: usize) -> u64
     ensures { result ≡ le_at (min n 8) s.now at }
 {
@@ -41,13 +41,14 @@ pub fn number_at(s: &[u8], at: usize, n: usize) -> u64
     }
 }
 
-// A MAC, which stands in wire order: its first byte is the lowest.
+/// A MAC, which stands in wire order: its first byte is the lowest. It has six bytes, as no type has.
 pub fn le48(s: &[u8], at: usize) -> u64
     ensures { result ≡ le_at 6 s.now at }
 {
     number_at(s, at, 6)
 }
 
+/// A big-endian number of two bytes, by the rule that has its own name for their exchange.
 pub fn be16(s: &[u8], at: usize) -> u16
     ensures { result ≡ swap16 (le_at 2 s.now at) }
 {
@@ -69,7 +70,7 @@ pub fn be<T: Number>(s: &[u8], at: usize) -> T
     T::narrowed(turned(number_at(s, at, T::WIDTH as usize), T::WIDTH))
 }
 
-// The number whose n bytes are those of v the other way round: the lowest of these becomes the highest.
+/// The number whose n bytes are those of v the other way round: the lowest of these becomes the highest.
 pub fn turned(v: u64, n: u8) -> u64
     requires { n ≤ 8 }
     ensures { result ≡ swapped n v }
@@ -83,7 +84,7 @@ pub fn turned(v: u64, n: u8) -> u64
     turned
 }
 
-// A number of 16 bytes by its two halves.
+/// A number of 16 bytes by its two halves: the rows of the C interface and a frame's headers hold an address as two words.
 #[derive(Clone, Copy)]
 pub struct Halves {
     pub high: u64,
@@ -92,6 +93,7 @@ pub struct Halves {
 
 pub const ZERO: Halves = Halves { high: 0, low: 0 };
 
+/// The big-endian number of 16 bytes at a position.
 pub fn be128(s: &[u8], at: usize) -> Halves
     ensures { result.high * 2 ^ 64 + result.low ≡ swapped 16 (le_at 16 s.now at) }
 {
@@ -105,7 +107,7 @@ pub fn be128(s: &[u8], at: usize) -> Halves
     }
 }
 
-// Whether n bytes from a position on are inside, by the true end of the range.
+/// Whether n bytes from a position on are inside, by the true end of the range.
 pub fn inside(s: &[u8], at: u64, n: u64) -> bool
     ensures { result ≡ inside at n s.now }
 {
@@ -115,7 +117,7 @@ pub fn inside(s: &[u8], at: u64, n: u64) -> bool
     }
 }
 
-// Writes v as n little-endian bytes from a position on, where these are inside, and nothing where not.
+/// Writes v as n little-endian bytes from a position on, where these are inside, and nothing where not.
 pub fn put(s: &mut [u8], at: usize, n: usize, v: u64)
     ensures { s.new ≡ put at n v s.old }
 {
@@ -128,6 +130,7 @@ pub fn put(s: &mut [u8], at: usize, n: usize, v: u64)
     }
 }
 
+/// Writes a number of two bytes.
 pub fn put16(s: &mut [u8], at: usize, v: u16)
     ensures { s.new ≡ put at 2 v s.old }
 {
