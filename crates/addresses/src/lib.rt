@@ -16,19 +16,24 @@ const IPV6: u16 = 0x86dd;
 
 // ---- The two families
 
+/// Whether the EtherType is that of IPv6.
+#[tactic(auto, unfolding(rules::specs::Address::is_ipv6))]
 pub fn is_ipv6(ethertype: u16) -> bool
     ensures { result ≡ is_ipv6 ethertype }
 {
     ethertype == IPV6
 }
 
+/// Whether the EtherType is one of the two families.
+#[tactic(auto, unfolding(rules::specs::Address::is_routed_type))]
 pub fn is_routed_type(ethertype: u16) -> bool
     ensures { result ≡ is_routed_type ethertype }
 {
     (ethertype == IPV4) | is_ipv6(ethertype)
 }
 
-// By the first byte of an address.
+/// Whether an address is one of a single host, by its first byte.
+#[tactic(auto, unfolding(rules::specs::Address::is_unicast))]
 pub fn is_unicast(ethertype: u16, high: u64) -> bool
     ensures { result ≡ is_unicast ethertype high }
 {
@@ -92,6 +97,8 @@ fn first_bits(word: u64, n: u8) -> u64
     word >> (64 - n)
 }
 
+/// How many bits an address of the family has.
+#[tactic(auto, unfolding(rules::specs::Address::address_bits, rules::specs::Address::address_bytes))]
 pub fn width_of(ethertype: u16) -> u8
     ensures { result ≡ address_bits ethertype }
 {
@@ -104,7 +111,7 @@ fn shorter(a: u8, b: u8) -> u8
     if a < b { a } else { b }
 }
 
-// Whether two addresses in words agree under the mask of a length.
+/// Whether two addresses agree under the mask of a length. Each is in two words, as the rows of the C interface and a frame's headers hold it.
 pub fn agree(
     ethertype: u16,
     prefix: u8,

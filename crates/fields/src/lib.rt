@@ -11,7 +11,7 @@ mod region;
 
 pub use region::Fields;
 
-// The types of the fields.
+// The types of the fields: numbers, as a region has them and as `encoding` goes over them.
 pub const TBL: u32 = 1;
 
 pub const PRIORITY: u32 = 2;
@@ -58,8 +58,8 @@ pub const DST_IPV6_MASK: u32 = 39;
 
 pub const POP_VLAN: u32 = 43;
 
-// Who reads a CMD_INFO: flow add and mod by table, of table 30 by the family of its addresses too; flow del; group add and mod of type 0, of
-// type 2, and of types 3 and 4; group del.
+// Who reads a CMD_INFO, a bit each, as the rows of the table hold sets of them: flow add and mod by table, of table 30 by the family of its
+// addresses too; flow del; group add and mod of type 0, of type 2, and of types 3 and 4; group del.
 pub const FLOW_0: u16 = 1;
 
 pub const FLOW_10: u16 = 2;

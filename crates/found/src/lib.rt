@@ -25,7 +25,7 @@ pub fn found(s: &[u8], header: usize, places: &Places, t: u32, width: u8) -> Fou
         }
         return Found::Fault;
     }
-    let size = reader::value_size(header, wire::le16(s, place - 4));
+    let size = reader::value_size(header, wire::le(s, place - 4));
     if (width == 0) | (size == width as usize) {
         Found::At(place, size)
     } else {

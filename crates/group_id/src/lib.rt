@@ -25,6 +25,7 @@ pub fn low_of(id: u32) -> u16
     (id & 0xffff) as u16
 }
 
+#[tactic(auto, unfolding(rules::specs::GroupId::vlan_allowed))]
 pub fn vlan_allowed(v: u16) -> bool
     ensures { result ≡ vlan_allowed v }
 {
@@ -32,6 +33,7 @@ pub fn vlan_allowed(v: u16) -> bool
 }
 
 // Groups of this type have members.
+#[tactic(auto, unfolding(rules::specs::GroupId::has_members))]
 pub fn has_members(t: u32) -> bool
     ensures { result ≡ has_members t }
 {
@@ -39,6 +41,7 @@ pub fn has_members(t: u32) -> bool
 }
 
 // Groups of this type send routed frames on.
+#[tactic(auto, unfolding(rules::specs::GroupId::is_routing))]
 pub fn is_routing(t: u32) -> bool
     ensures { result ≡ is_routing t }
 {
@@ -46,6 +49,7 @@ pub fn is_routing(t: u32) -> bool
 }
 
 // A version has these groups, and the tables that lead to them.
+#[tactic(auto, unfolding(rules::specs::Version::routes))]
 pub fn routes(version: u16) -> bool
     ensures { result ≡ routes version }
 {
@@ -53,6 +57,7 @@ pub fn routes(version: u16) -> bool
 }
 
 // A type that there is in the version, and a VLAN in range where the type has one; the low bits are not looked at.
+#[tactic(auto, unfolding(rules::specs::GroupId::group_id_allowed))]
 pub fn allowed(version: u16, id: u32) -> bool
     ensures { result ≡ group_id_allowed version id }
 {

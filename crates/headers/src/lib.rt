@@ -64,7 +64,7 @@ fn address_of(f: &[u8], ethertype: u16, at: usize) -> Halves
         return wire::be128(f, at + 24);
     }
     Halves {
-        high: wire::be32(f, at + 16) as u64 * 4294967296,
+        high: wire::be::<u32>(f, at + 16) as u64 * 4294967296,
         low: 0,
     }
 }

@@ -45,7 +45,7 @@ fn member(region: &[u8], vlan: u16, lows: &Members, n: usize, x: Tlv) -> Option<
     requires { n ≤ max_ports }
     ensures { result ≡ taken region.now vlan (take n lows.now) n x }
 {
-    let id = wire::le32(region, x.start);
+    let id: u32 = wire::le(region, x.start);
     let low = group_id::low_of(id);
     if member_right(vlan, n, x, id, contains(lows, n, low)) {
         Some(low)

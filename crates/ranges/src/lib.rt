@@ -12,12 +12,14 @@ use rules::{Match, Terms};
 // ---- Flows
 
 // The tables that flows may be put into.
+#[tactic(auto, unfolding(rules::specs::Decode::is_table))]
 pub fn is_table(version: u16, t: u64) -> bool
     ensures { result ≡ is_table version t }
 {
     (t == 0) | (t == 10) | (t == 50) | (group_id::routes(version) & ((t == 20) | (t == 30)))
 }
 
+#[tactic(auto, unfolding(rules::specs::Decode::new_vlan_fits))]
 fn new_vlan_fits(vlan: u16, has_new: bool, new: u16) -> bool
     ensures { result ≡ new_vlan_fits vlan has_new new }
 {
@@ -29,6 +31,7 @@ fn new_vlan_fits(vlan: u16, has_new: bool, new: u16) -> bool
 }
 
 // A given group has the flow's VLAN, and the type that its MAC asks for.
+#[tactic(auto, unfolding(rules::specs::Decode::group_fits))]
 fn group_fits(vlan: u16, has_mac: bool, mac: u64, id: u32) -> bool
     ensures { result ≡ group_fits vlan has_mac mac id }
 {
@@ -45,6 +48,7 @@ fn group_fits(vlan: u16, has_mac: bool, mac: u64, id: u32) -> bool
 }
 
 // The ranges of a flow's fields in table 10; the other tables follow.
+#[tactic(auto, unfolding(rules::specs::Decode::match_allowed))]
 fn vlan_flow_allowed(
     terms: Terms,
     goto_tbl: u16,
@@ -62,6 +66,7 @@ fn vlan_flow_allowed(
 }
 
 // In table 20; any MAC will do.
+#[tactic(auto, unfolding(rules::specs::Decode::match_allowed))]
 fn termination_allowed(
     terms: Terms,
     goto_tbl: u16,
@@ -79,6 +84,7 @@ fn termination_allowed(
 }
 
 // In table 30; the lower word of an address may be any.
+#[tactic(auto, unfolding(rules::specs::Decode::match_allowed))]
 fn routing_allowed(
     goto_tbl: u16,
     ethertype: u16,
@@ -97,6 +103,7 @@ fn routing_allowed(
 }
 
 // In table 50.
+#[tactic(auto, unfolding(rules::specs::Decode::match_allowed))]
 fn bridging_allowed(
     goto_tbl: u16,
     vlan_id: u16,
@@ -153,6 +160,7 @@ pub fn match_allowed(terms: Terms, goto_tbl: u16, has_new: bool, m: Match) -> bo
 // ---- Groups
 
 // The lower group of a group of type 2 has type 0 and the VLAN.
+#[tactic(auto, unfolding(rules::specs::Decode::lower_fits))]
 pub fn lower_fits(vlan: u16, lower: u32) -> bool
     ensures { result ≡ lower_fits vlan lower }
 {

@@ -14,6 +14,7 @@ pub mod reader;
 pub use reader::{Malformed, Tlvs};
 
 /// How many of its TLV's header bytes a length counts in a version: all 8 from version 2 on, none before.
+#[tactic(auto, unfolding(rules::specs::Version::header_bytes, rules::specs::Version::header_counted))]
 pub fn header_bytes(version: u16) -> usize
     ensures { result ≡ header_bytes version }
 {
@@ -24,6 +25,7 @@ pub fn header_bytes(version: u16) -> usize
 /// one, else where its value starts, which is at 8 or later.
 pub type Places = [usize; FIELD_TYPES];
 
+#[tactic(auto, unfolding(crate::specs::Index::marked))]
 fn marked(place: usize, start: usize) -> usize
     ensures { result ≡ marked place start }
 {
@@ -31,6 +33,7 @@ fn marked(place: usize, start: usize) -> usize
 }
 
 // What a TLV adds to the places so far. A type past those is in no table and is skipped.
+#[tactic(auto, unfolding(crate::specs::Index::noted))]
 fn note(places: &mut Places, tlv: Tlv)
     ensures { places.new ≡ noted places.old tlv }
 {

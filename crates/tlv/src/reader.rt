@@ -24,6 +24,7 @@ impl From<Malformed> for Status {
 }
 
 /// The length of a value, from its TLV's length field, which counts the header.
+#[tactic(auto, unfolding(rules::specs::Region::value_size))]
 pub fn value_size(header: usize, field: u16) -> usize
     requires { header ≤ field }
     ensures { result ≡ value_size header field }
@@ -31,6 +32,7 @@ pub fn value_size(header: usize, field: u16) -> usize
     field as usize - header
 }
 
+#[tactic(auto, unfolding(rules::specs::Region::filled))]
 fn filled(n: usize) -> usize
     requires { filled n < 2 ^ 64 }
     ensures { result ≡ filled n }
@@ -44,14 +46,14 @@ fn front(header: usize, region: &[u8], at: usize) -> Result<Tlv, Malformed>
     ensures { result ≡ front header region.now at }
 {
     let room = (region.len() - at).checked_sub(8).ok_or(Malformed)?;
-    let size = usize::from(wire::le16(region, at + 4))
+    let size = usize::from(wire::le::<u16>(region, at + 4))
         .checked_sub(header)
         .ok_or(Malformed)?;
     if room < filled(size) {
         return Err(Malformed);
     }
     Ok(Tlv {
-        kind: wire::le32(region, at),
+        kind: wire::le(region, at),
         start: at + 8,
         size,
     })

@@ -165,9 +165,9 @@ fn ask<R: Read>(from: &mut R) -> io::Result<Question> {
     let mut head = [0u8; 16];
     let got = read_full(from, &mut head)?;
     Ok(Question {
-        n: wire::le64(&head, 0),
-        room: wire::le32(&head, 8) as usize,
-        journal: wire::le32(&head, 12) as usize,
+        n: wire::le(&head, 0),
+        room: wire::le::<u32>(&head, 8) as usize,
+        journal: wire::le::<u32>(&head, 12) as usize,
         there: got == 16,
     })
 }

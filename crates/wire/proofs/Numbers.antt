@@ -61,15 +61,15 @@ turning_goes_on k j r v whole h e w =
     let t : whole ≡ r * (256 * 256 ^ j) + (v % 256 * 256 ^ j + swapped j (v / 256)) = rw (q, pow-succ') at w in
     omega arith
 
-pub turning_grows : (n k j r v : ℕ) → 0 < k → k ≤ n → j ≡ k - 1 → r < 256 ^ (n - k) → r * 256 + v % 256 < 256 ^ (n - j)
-turning_grows n k j r v h l e b =
-    let q : n - j ≡ suc (n - k) = omega arith in
+pub turning_grows : (d r v : ℕ) → r < 256 ^ d → r * 256 + v % 256 < 256 ^ (d + 1)
+turning_grows d r v b =
+    let q : d + 1 ≡ suc d = omega arith in
     rw (q, pow-succ') (omega arith)
 
-pub turning_fits : (n k r : ℕ) → n ≤ 8 → 0 < k → r < 256 ^ (n - k) → r < 2 ^ 56
-turning_fits n k r h l b =
-    let d : n - k ≤ 7 = omega arith in
-    let p : 256 ^ (n - k) ≤ 256 ^ 7 = pow-le-pow_right (omega arith) d in
+pub turning_fits : (n d r : ℕ) → n ≤ 8 → d < n → r < 256 ^ d → r < 2 ^ 56
+turning_fits n d r h l b =
+    let few : d ≤ 7 = omega arith in
+    let p : 256 ^ d ≤ 256 ^ 7 = pow-le-pow_right (omega arith) few in
     omega arith
 
 pub turning_ends : (k r v whole : ℕ) → k ≤ 0 → whole ≡ r * 256 ^ k + swapped k v → r ≡ whole
@@ -86,32 +86,23 @@ halves n m s h = sym (rw (le_split n m s) (swapped_split n m (le n s) (le m (dro
 
 -- ---- Writing
 
--- a number written from its first byte to its last: where that begins, a turn, and the end
-pub writing_starts : (at n v : ℕ) (s : List ℕ) → splice (at + 0) (bytes_of (n - 0) v) s ≡ splice at (bytes_of n v) s
-writing_starts at n v s = rw (add-zero, sub-zero)
-
-pub writing_goes_on : (at n i v : ℕ) (s whole : List ℕ) → i < n → at + i < length s → splice (at + i) (bytes_of (n - i) v) s ≡ whole
-    → splice (at + (i + 1)) (bytes_of (n - (i + 1)) (v / 256)) (set s (at + i) (v % 256)) ≡ whole
+-- a number written from its first byte to its last: a turn, and the end
+pub writing_goes_on : (i e v : ℕ) (s whole : List ℕ) → i < e → i < length s → splice i (bytes_of (e - i) v) s ≡ whole
+    → splice (i + 1) (bytes_of (e - (i + 1)) (v / 256)) (set s i (v % 256)) ≡ whole
 unfolding bytes_of
-writing_goes_on at n i v s whole h k e =
-    let q : n - i ≡ suc (n - (i + 1)) = omega arith in
-    let a : at + (i + 1) ≡ suc (at + i) = omega arith in
-    rw (a, ← splice_cons (at + i) (v % 256) (bytes_of (n - (i + 1)) (v / 256)) s k) (rw q at e)
+writing_goes_on i e v s whole h k w =
+    let q : e - i ≡ suc (e - suc i) = omega arith in
+    let a : i + 1 ≡ suc i = omega arith in
+    rw (a, ← splice_cons i (v % 256) (bytes_of (e - suc i) (v / 256)) s k) (rw q at w)
 
-pub writing_ends : (at n i v : ℕ) (s whole : List ℕ) → n ≤ i → splice (at + i) (bytes_of (n - i) v) s ≡ whole → s ≡ whole
+pub writing_ends : (i e v : ℕ) (s whole : List ℕ) → e ≤ i → splice i (bytes_of (e - i) v) s ≡ whole → s ≡ whole
 unfolding bytes_of
-writing_ends at n i v s whole h e =
-    let q : n - i ≡ 0 = omega arith in
-    sym (splice_nil (at + i) s) ∙ rw q at e
+writing_ends i e v s whole h w =
+    let q : e - i ≡ 0 = omega arith in
+    sym (splice_nil i s) ∙ rw q at w
 
 -- ---- Inside
 
 pub inside_true : (at n : ℕ) (s : List ℕ) → inside at n s ≡ true → at + n ≤ length s
 unfolding inside
 inside_true at n s e = leb-true _ _ e
-
-pub inside_near : (at n size : ℕ) → at ≤ size → leb n (size - at) ≡ leb (at + n) size
-inside_near at n size h =
-    by_le (at + n) size
-    (λ k p. le-leb n (size - at) (omega arith) ∙ sym p)
-    (λ k p. lt-leb n (size - at) (omega arith) ∙ sym p)

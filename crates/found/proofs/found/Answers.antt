@@ -19,18 +19,18 @@ returns-then-place-lt8 c =
 pub value_size-size-requires : goal.value_size-size-requires
 value_size-size-requires c =
     let i = c.requires in
-    omega (arith, i.0.counts _ i.1 c.if-place-lt8.false, c.le16.ensures)
+    omega (arith, i.0.counts _ i.1 c.if-place-lt8.false, c.le.ensures)
 
 pub returns-then-width-size : goal.returns-then-width-size
 unfolding found_at size_at fits_width
 returns-then-width-size c =
     let i = c.requires in
     rw (← i.0.tells _ _ i.1)
-    (simp (le-ltb _ _ c.if-place-lt8.false, ← c.le16.ensures, ← c.value_size-size.ensures, c.if-width-size.true))
+    (simp (le-ltb _ _ c.if-place-lt8.false, ← c.le.ensures, ← c.value_size-size.ensures, c.if-width-size.true))
 
 pub returns-else-width-size : goal.returns-else-width-size
 unfolding found_at size_at fits_width
 returns-else-width-size c =
     let i = c.requires in
     rw (← i.0.tells _ _ i.1)
-    (simp (le-ltb _ _ c.if-place-lt8.false, ← c.le16.ensures, ← c.value_size-size.ensures, c.if-width-size.false))
+    (simp (le-ltb _ _ c.if-place-lt8.false, ← c.le.ensures, ← c.value_size-size.ensures, c.if-width-size.false))

@@ -10,4 +10,4 @@ returns-then-is_ipv6 c =
 pub returns : goal.returns
 returns c =
     let a = c.args in
-    in_ipv4 a.f.now a.ethertype a.at _ (sym c.is_ipv6.ensures ∙ c.if-is_ipv6.false) c.be32.ensures
+    in_ipv4 a.f.now a.ethertype a.at _ (sym c.is_ipv6.ensures ∙ c.if-is_ipv6.false) c.be.ensures

@@ -19,5 +19,5 @@ unfolding le_at
 returns c =
     let a = c.args in
     let x = drop a.at a.s.now in
-    rw (c.be64.ensures, c.be64-2.ensures, to_end)
-    (halves 8 8 x (λ j. rw get_or-drop (c.shared_slice_known-1.given (a.at + j)).fits))
+    rw (c.be.ensures, c.be-2.ensures, to_end)
+    (halves 8 8 x (λ j. rw get_or-drop (c.type_inv.s (a.at + j)).fits))

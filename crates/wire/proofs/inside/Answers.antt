@@ -1,18 +1,16 @@
-use Rattle.wire.proofs.Numbers.{inside_near}
 use Rattle.rules.specs.Bytes.{inside}
-use lib.ListN.{length}
-use Prim.Native.Nat.{◌+◌}
-use mathlib.Core.Path.{sym}
+use Rattle.std.proofs.Common.{◌+◌, ap, sym, length, arith}
+use lib.Dec.{leb}
 use borrow.Author.Tests.{lt-leb}
-use native.Mathlib.Omega.{arith}
 use Rattle.wire.proofs.inside.Goals as goal
 
-pub returns-then-at-size : goal.returns-then-at-size
+pub returns-in-Some : goal.returns-in-Some
 unfolding inside
-returns-then-at-size c = inside_near _ _ _ c.if-at-size.true
+returns-in-Some c = let h = c.in-Some.ensures in ap (λ end. leb end (length c.args.s.now)) h.1
 
-pub returns-else-at-size : goal.returns-else-at-size
+pub returns-in-None : goal.returns-in-None
 unfolding inside
-returns-else-at-size c =
+returns-in-None c =
     let a = c.args in
-    sym (lt-leb (a.at + a.n) (length a.s.now) (omega arith))
+    let h = c.in-None.ensures in
+    sym (lt-leb (a.at + a.n) (length a.s.now) (omega (arith, h)))

@@ -8,7 +8,7 @@ use Rattle.wire.proofs.number_at.Goals as goal
 
 pub returns-then-at-s : goal.returns-then-at-s
 unfolding le_at
-returns-then-at-s c = c.number.ensures ∙ rw to_end
+returns-then-at-s c = c.front.ensures ∙ rw to_end
 
 pub returns-else-at-s : goal.returns-else-at-s
 unfolding le_at

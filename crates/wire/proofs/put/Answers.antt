@@ -1,24 +1,39 @@
--- What is still to be written, put over what stands there now, is always the whole number put over the old slice.
--- Assumes nothing.
-use Rattle.wire.proofs.Numbers.{writing_starts, writing_goes_on, writing_ends, inside_true}
+use Rattle.wire.proofs.Numbers.{writing_goes_on, writing_ends, inside_true}
 use Rattle.wire.specs.Put.{put}
+use Rattle.rules.specs.Bytes.{bytes_of, splice}
+use Rattle.std.proofs.Common.{◌≡◌, ◌≤◌, ◌+◌, ◌-◌, ℕ, refl, ap, sym, ◌∙◌, length, arith}
 use lib.ListN.{length-set}
-use mathlib.Core.Path.{◌∙◌, sym}
-use borrow.Author.Rules.{rules}
 use Rattle.wire.proofs.put.Goals as goal
 
+pub overflow_add-i-end : goal.overflow_add-i-end
+overflow_add-i-end c =
+    let a = c.args in
+    let room = inside_true a.at a.n a.s.now (sym c.inside.ensures ∙ c.if-inside.true) in
+    record { fits = omega (arith, room) }
+
 pub loop-i-init : goal.loop-i-init
-loop-i-init c = (search rules, search rules, inside_true _ _ _ (sym c.inside.ensures ∙ c.if-inside.true), writing_starts _ _ _ _)
+loop-i-init c =
+    let a = c.args in
+    let e : a.at + a.n - a.at ≡ a.n = omega arith in
+    record {
+      long = refl;
+      room = inside_true _ _ _ (sym c.inside.ensures ∙ c.if-inside.true);
+      whole = ap (λ (n : ℕ). splice a.at (bytes_of n a.v) a.s.now) e;
+    }
 
 pub loop-i-preserved : goal.loop-i-preserved
 loop-i-preserved c =
     let l = c.loop-i in
-    (search rules, simp length-set l.invariant.1, simp length-set l.invariant.2, writing_goes_on _ _ _ _ _ _ c.loop-i-test.true (search rules) l.invariant.3)
+    record {
+      long = simp length-set l.invariant.long;
+      room = simp length-set l.invariant.room;
+      whole = writing_goes_on _ _ _ _ _ c.loop-i-test.true (omega (arith, l.invariant.room)) l.invariant.whole;
+    }
 
 pub returns-after-loop-i : goal.returns-after-loop-i
 unfolding put
 returns-after-loop-i c =
-    rw (← c.inside.ensures, c.if-inside.true) (writing_ends _ _ _ _ _ _ c.loop-i-test.false c.loop-i.invariant.3)
+    rw (← c.inside.ensures, c.if-inside.true) (writing_ends _ _ _ _ _ c.loop-i-test.false c.loop-i.invariant.whole)
 
 pub returns-else-inside : goal.returns-else-inside
 unfolding put

@@ -1,12 +1,11 @@
 use Rattle.rules.specs.Bytes.{bytes_of, splice}
-use lib.ListN.{length}
-use mathlib.Core.Path.{◌≡◌}
-use Prim.Native.Nat.{◌≤◌, ◌-◌, ◌+◌}
+use Rattle.std.proofs.Common.{◌≡◌, ◌≤◌, ◌-◌, ◌+◌, length}
 use Rattle.wire.proofs.put.Given as goal
 
+-- what is still to be written, put over what stands there now, is always the whole number put over the old slice
 abbrev pub invariant-loop-i : goal.invariant-loop-i
-invariant-loop-i l =
-    (l.i ≤ l.n) × (length l.s ≡ length l.initial.s) × (l.at + l.n ≤ length l.s) × (splice (l.at + l.i) (bytes_of (l.n - l.i) l.rest) l.s ≡ splice l.at (bytes_of l.n l.v) l.initial.s)
-
-abbrev pub decreases-loop-i : goal.decreases-loop-i
-decreases-loop-i l = l.n - l.i
+invariant-loop-i l = record {
+  long : length l.s ≡ length l.initial.s;
+  room : l.at + l.n ≤ length l.s;
+  whole : splice l.i (bytes_of (l.at + l.n - l.i) l.rest) l.s ≡ splice l.at (bytes_of l.n l.v) l.initial.s;
+}

@@ -1,10 +1,10 @@
 use Rattle.rules.specs.Bytes.{swapped}
-use mathlib.Core.Path.{◌≡◌}
-use Prim.Native.Nat.{◌≤◌, ◌<◌, ◌+◌, ◌-◌, ◌*◌, ◌^◌}
+use Rattle.std.proofs.Common.{◌≡◌, ◌<◌, ◌+◌, ◌-◌, ◌*◌, ◌^◌}
 use Rattle.wire.proofs.turned.Given as goal
 
-abbrev pub invariant-loop-left : goal.invariant-loop-left
-invariant-loop-left l = (l.left ≤ l.n) × (l.r < 256 ^ (l.n - l.left)) × (swapped l.n l.v ≡ l.r * 256 ^ l.left + swapped l.left l.rest)
-
-abbrev pub decreases-loop-left : goal.decreases-loop-left
-decreases-loop-left l = l.left
+-- what is still to be turned, behind what is turned already, is always the whole number turned
+abbrev pub invariant-loop-done : goal.invariant-loop-done
+invariant-loop-done l = record {
+  fits : l.turned < 256 ^ l._done;
+  whole : swapped l.n l.v ≡ l.turned * 256 ^ (l.n - l._done) + swapped (l.n - l._done) l.rest;
+}

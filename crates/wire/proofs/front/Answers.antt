@@ -4,8 +4,8 @@ use Rattle.wire.proofs.Numbers.{reading_starts, reading_goes_on, reading_fits, r
 use Prim.Native.Nat.{◌<◌, ◌-◌, ◌^◌, min}
 use borrow.Author.Rules.{rules}
 use native.Mathlib.Omega.{arith}
-use Rattle.wire.proofs.number.Goals as goal
-use Rattle.wire.proofs.number.Goals.{In-loop-k}
+use Rattle.wire.proofs.front.Goals as goal
+use Rattle.wire.proofs.front.Goals.{In-loop-k}
 
 pub loop-k-init : goal.loop-k-init
 loop-k-init c =

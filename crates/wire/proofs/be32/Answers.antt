@@ -1,9 +1,0 @@
-use Rattle.rules.proofs.Address.{swapped_below}
-use native.Mathlib.Omega.{arith}
-use Rattle.wire.proofs.be32.Goals as goal
-
-pub overflow_cast-result : goal.overflow_cast-result
-overflow_cast-result c = omega (arith, swapped_below 4 c.number_at.result, c.turned.ensures)
-
-pub returns : goal.returns
-returns c = cc
