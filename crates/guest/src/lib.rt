@@ -24,6 +24,7 @@ fn part(memory: &mut [u8], at: u64, n: u64) -> Result<&mut [u8], Fault> {
 }
 
 impl Memory {
+    /// The bytes that the guest has.
     pub fn bytes(&mut self) -> &mut [u8] {
         let size = self.size.min(MOST);
         let all = &mut self.all[..];

@@ -84,6 +84,7 @@ fn ended<'l>(line: &'l [u8], used: Option<usize>, end: End) -> Line<'l> {
 }
 
 impl<'a, R: Read> Reader<'a, R> {
+    /// An input of which nothing has been read.
     pub fn new(from: &'a mut R, input: &'a mut [u8]) -> Reader<'a, R> {
         Reader {
             from,

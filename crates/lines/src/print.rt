@@ -21,6 +21,7 @@ pub fn bytes<W: Write>(out: &mut W, s: &[u8]) -> io::Result<()> {
     Ok(())
 }
 
+/// The line's end.
 pub fn end<W: Write>(out: &mut W) -> io::Result<()> {
     out.write_all(b"\n")
 }

@@ -13,6 +13,7 @@ pub struct Gathered<W: Write + Drop> {
 }
 
 impl<W: Write + Drop> Gathered<W> {
+    /// A writer for which nothing waits.
     pub fn nothing(out: W) -> Gathered<W> {
         Gathered {
             out,
