@@ -1,260 +1,201 @@
-// The calls of a device, each from its line: its numbers are handed over as they are, and its outcome is printed. A line that is no call is
-// a fault. With a fault no device is given back, and the caller keeps the one before the line.
+//! The calls of a device, each from its line: its numbers are handed over as they are, and its outcome is printed. With a line that is no
+//! call, or that cannot be carried out, the device stays as it was.
 
 #![tactic(auto)]
 
-use hexadecimal::Counted;
+ghost use Rattle.std.specs.Prelude.{◌≤◌, IfOk};
+
 use lines::{Fault, told};
 use rules::{Device, FlowOrder, FlowRows, GroupHeads, GroupMembers, LIST_NUMBERS, OUTPUT_NUMBERS};
 use std::io::Write;
-use text::Numeral;
 
-// link PORT UP
-fn link<W: Write>(out: &mut W, d: Device, s: &[u8]) -> Result<Device, Fault> {
-    let n = text::arguments(s, 3);
-    if !n.good {
-        return Err(Fault::Line("expected link PORT UP"));
-    }
-    if 1 < n.b {
-        return Err(Fault::Line("UP is 0 or 1"));
-    }
-    let r = device::link(d, n.a, n.b == 1);
-    let answer = r.answer;
-    let after = r.device;
-    told::answer(out, answers::number(answer))?;
-    Ok(after)
-}
+/// The most bytes that a record, a frame or a header may have.
+pub const ROOM: usize = 65536;
 
-// read WIDTH OFFSET
-fn read<W: Write>(out: &mut W, d: Device, s: &[u8]) -> Result<Device, Fault> {
-    let n = text::arguments(s, 3);
-    if !n.good {
-        return Err(Fault::Line("expected read WIDTH OFFSET"));
-    }
-    let r = device::read(d, n.b, n.a);
-    let answer = r.answer;
-    let after = r.device;
-    told::value(out, answers::number(answer), r.value)?;
-    Ok(after)
-}
+/// The most numbers that a frame's list may have.
+pub const LIST: usize = 1024;
 
-// write WIDTH OFFSET VALUE
-fn write<W: Write>(out: &mut W, d: Device, s: &[u8]) -> Result<Device, Fault> {
-    let n = text::arguments(s, 4);
-    if !n.good {
-        return Err(Fault::Line("expected write WIDTH OFFSET VALUE"));
-    }
-    let r = device::write(d, n.b, n.a, n.c);
-    let answer = r.answer;
-    let after = r.device;
-    told::raised(out, answers::number(answer), r.interrupt)?;
-    Ok(after)
+/// A device once there is one, its flows and groups and the order of its flows, and room for what a call reads or gives back.
+#[derive(Drop)]
+pub struct Host {
+    pub device: Option<Device>,
+    pub flows: FlowRows,
+    pub heads: GroupHeads,
+    pub members: GroupMembers,
+    pub order: FlowOrder,
+    pub buffer: [u8; ROOM],
+    pub list: [u16; LIST],
 }
 
 // How many bytes of the buffer `work` or `header` may use.
-fn room(s: &[u8]) -> Result<usize, Fault> {
-    let n = text::arguments(s, 2);
-    if !n.good {
-        return Err(Fault::Line("expected one number, ROOM"));
-    }
-    if 65536 < n.a {
+fn room(s: &[u8]) -> Result<usize, Fault>
+    ensures { IfOk result (λ n. n ≤ 65536) }
+{
+    let [room] = text::arguments::<1>(s).ok_or(Fault::Line("expected one number, ROOM"))?;
+    if (ROOM as u64) < room {
         return Err(Fault::Line("ROOM is at most 65536"));
     }
-    Ok(n.a as usize)
-}
-
-fn worked<W: Write>(
-    out: &mut W,
-    d: Device,
-    memory: &mut [u8],
-    buffer: &mut [u8],
-    flows: &mut FlowRows,
-    heads: &mut GroupHeads,
-    members: &mut GroupMembers,
-    order: &mut FlowOrder,
-) -> Result<Device, Fault> {
-    let r = device::process(d, memory, buffer, flows, heads, members, order);
-    let answer = r.answer;
-    let after = r.device;
-    let n = numbers::min(r.written, buffer.len());
-    told::record(out, answers::number(answer), r.interrupt, &buffer[0..n])?;
-    Ok(after)
-}
-
-// work ROOM
-fn work<W: Write>(
-    out: &mut W,
-    d: Device,
-    s: &[u8],
-    memory: &mut [u8],
-    buffer: &mut [u8],
-    flows: &mut FlowRows,
-    heads: &mut GroupHeads,
-    members: &mut GroupMembers,
-    order: &mut FlowOrder,
-) -> Result<Device, Fault> {
-    let size = room(s)?;
-    let n = numbers::min(size, buffer.len());
-    worked(
-        out,
-        d,
-        memory,
-        &mut buffer[0..n],
-        flows,
-        heads,
-        members,
-        order,
-    )
-}
-
-fn headed<W: Write>(out: &mut W, d: Device, buffer: &mut [u8]) -> Result<Device, Fault> {
-    let r = device::header(d, buffer);
-    let answer = r.answer;
-    let after = r.device;
-    let n = numbers::min(r.written, buffer.len());
-    told::header(out, answers::number(answer), &buffer[0..n])?;
-    Ok(after)
-}
-
-// header ROOM
-fn header<W: Write>(out: &mut W, d: Device, s: &[u8], buffer: &mut [u8]) -> Result<Device, Fault> {
-    let size = room(s)?;
-    let n = numbers::min(size, buffer.len());
-    headed(out, d, &mut buffer[0..n])
+    Ok(room as usize)
 }
 
 // A frame's list: as many numbers as it may need, or LISTLEN.
-fn list_length(s: &[u8]) -> Result<usize, Fault> {
-    if text::count(s) == 3 {
-        return Ok(LIST_NUMBERS);
+fn list_length(s: &[u8]) -> Result<usize, Fault>
+    ensures { IfOk result (λ n. n ≤ 1024) }
+{
+    match text::count(s) {
+        3 => return Ok(LIST_NUMBERS),
+        4 => {}
+        _ => return Err(Fault::Line("expected frame PORT HEX [LISTLEN]")),
     }
-    if text::count(s) != 4 {
-        return Err(Fault::Line("expected frame PORT HEX [LISTLEN]"));
-    }
-    let Numeral::Number(n) = text::argument(s, 3) else {
-        return Err(Fault::Line("not a number of 64 bits"));
-    };
-    if 1024 < n {
+    let n = text::argument(s, 3).ok_or(Fault::Line("not a number of 64 bits"))?;
+    if (LIST as u64) < n {
         return Err(Fault::Line("LISTLEN is at most 1024"));
     }
     Ok(n as usize)
 }
 
-// Nine numbers to an output.
-fn forward<W: Write>(
-    out: &mut W,
-    d: Device,
-    port: u64,
-    f: &[u8],
-    list: &mut [u16],
-    flows: &FlowRows,
-    heads: &GroupHeads,
-    members: &GroupMembers,
-    order: &FlowOrder,
-) -> Result<(), Fault> {
-    let r = device::frame(d, port, f, list, flows, heads, members, order);
-    let answer = r.answer;
-    let n = r.outputs;
-    let count = OUTPUT_NUMBERS * numbers::min(n, 113);
-    told::outputs(out, answers::number(answer), n as u64, list, count)?;
-    Ok(())
-}
-
-fn filled<W: Write>(
-    out: &mut W,
-    d: Device,
-    port: u64,
-    digits: &[u8],
-    f: &mut [u8],
-    list: &mut [u16],
-    flows: &FlowRows,
-    heads: &GroupHeads,
-    members: &GroupMembers,
-    order: &FlowOrder,
-) -> Result<(), Fault> {
-    hexadecimal::bytes(digits, f);
-    forward(out, d, port, f, list, flows, heads, members, order)
-}
-
-// frame PORT HEX [LISTLEN]. The buffer holds the frame.
-fn frame<W: Write>(
-    out: &mut W,
-    d: Device,
-    s: &[u8],
-    buffer: &mut [u8],
-    list: &mut [u16],
-    flows: &FlowRows,
-    heads: &GroupHeads,
-    members: &GroupMembers,
-    order: &FlowOrder,
-) -> Result<(), Fault> {
-    let long = list_length(s)?;
-    let Numeral::Number(port) = text::argument(s, 1) else {
-        return Err(Fault::Line("not a number of 64 bits"));
-    };
-    let digits = text::word(s, 2);
-    let Counted::Bytes(count) = hexadecimal::count(digits) else {
-        return Err(Fault::Line("malformed bytes"));
-    };
-    let n = numbers::min(count, buffer.len());
-    let k = numbers::min(long, list.len());
-    filled(
-        out,
-        d,
-        port,
-        digits,
-        &mut buffer[0..n],
-        &mut list[0..k],
-        flows,
-        heads,
-        members,
-        order,
-    )
-}
-
-// A line that calls the device and needs no table.
-fn without_tables<W: Write>(
-    out: &mut W,
-    d: Device,
-    s: &[u8],
-    buffer: &mut [u8],
-) -> Result<Device, Fault> {
-    match text::word(s, 0) {
-        b"link" => link(out, d, s),
-        b"read" => read(out, d, s),
-        b"write" => write(out, d, s),
-        b"header" => header(out, d, s, buffer),
-        _ => Err(Fault::Line("no call")),
+impl Host {
+    // The device that there is.
+    fn made(&self) -> Result<Device, Fault> {
+        self.device.ok_or(Fault::Line("no device"))
     }
-}
 
-// Whether a word is the name of a call of the device.
-pub fn is_call(name: &[u8]) -> bool {
-    matches!(
-        name,
-        b"link" | b"header" | b"read" | b"write" | b"work" | b"frame"
-    )
-}
-
-// A line that calls the device.
-pub fn call<W: Write>(
-    out: &mut W,
-    d: Device,
-    s: &[u8],
-    memory: &mut [u8],
-    buffer: &mut [u8],
-    list: &mut [u16],
-    flows: &mut FlowRows,
-    heads: &mut GroupHeads,
-    members: &mut GroupMembers,
-    order: &mut FlowOrder,
-) -> Result<Device, Fault> {
-    match text::word(s, 0) {
-        b"work" => work(out, d, s, memory, buffer, flows, heads, members, order),
-        b"frame" => {
-            frame(out, d, s, buffer, list, flows, heads, members, order)?;
-            Ok(d)
+    // fresh PORTS SWITCH_ID. A refused one leaves the device that was there.
+    fn fresh<W: Write>(&mut self, out: &mut W, s: &[u8]) -> Result<(), Fault> {
+        let [ports, switch_id] = text::arguments::<2>(s).ok_or(Fault::Line(
+            "expected fresh PORTS SWITCH_ID",
+        ))?;
+        let r = device::fresh(
+            ports,
+            switch_id,
+            &mut self.flows,
+            &mut self.heads,
+            &mut self.members,
+            &mut self.order,
+        );
+        let number = answers::number(r.answer);
+        told::answer(out, number)?;
+        if number == 0 {
+            self.device = Some(r.device);
         }
-        _ => without_tables(out, d, s, buffer),
+        Ok(())
+    }
+
+    // link PORT UP
+    fn link<W: Write>(&mut self, out: &mut W, s: &[u8]) -> Result<(), Fault> {
+        let device = self.made()?;
+        let [port, up] = text::arguments::<2>(s).ok_or(Fault::Line("expected link PORT UP"))?;
+        if 1 < up {
+            return Err(Fault::Line("UP is 0 or 1"));
+        }
+        let r = device::link(device, port, up == 1);
+        told::answer(out, answers::number(r.answer))?;
+        self.device = Some(r.device);
+        Ok(())
+    }
+
+    // read WIDTH OFFSET
+    fn read<W: Write>(&mut self, out: &mut W, s: &[u8]) -> Result<(), Fault> {
+        let device = self.made()?;
+        let [width, offset] = text::arguments::<2>(s).ok_or(Fault::Line(
+            "expected read WIDTH OFFSET",
+        ))?;
+        let r = device::read(device, offset, width);
+        told::value(out, answers::number(r.answer), r.value)?;
+        self.device = Some(r.device);
+        Ok(())
+    }
+
+    // write WIDTH OFFSET VALUE
+    fn write<W: Write>(&mut self, out: &mut W, s: &[u8]) -> Result<(), Fault> {
+        let device = self.made()?;
+        let [width, offset, value] = text::arguments::<3>(s).ok_or(Fault::Line(
+            "expected write WIDTH OFFSET VALUE",
+        ))?;
+        let r = device::write(device, offset, width, value);
+        told::raised(out, answers::number(r.answer), r.interrupt)?;
+        self.device = Some(r.device);
+        Ok(())
+    }
+
+    // work ROOM
+    fn work<W: Write>(&mut self, out: &mut W, s: &[u8], memory: &mut [u8]) -> Result<(), Fault> {
+        let device = self.made()?;
+        let room = room(s)?;
+        let buffer = &mut self.buffer[..];
+        let buffer = &mut buffer[..room];
+        let r = device::process(
+            device,
+            memory,
+            buffer,
+            &mut self.flows,
+            &mut self.heads,
+            &mut self.members,
+            &mut self.order,
+        );
+        let n = r.written.min(buffer.len());
+        told::record(out, answers::number(r.answer), r.interrupt, &buffer[..n])?;
+        self.device = Some(r.device);
+        Ok(())
+    }
+
+    // header ROOM
+    fn header<W: Write>(&mut self, out: &mut W, s: &[u8]) -> Result<(), Fault> {
+        let device = self.made()?;
+        let room = room(s)?;
+        let buffer = &mut self.buffer[..];
+        let buffer = &mut buffer[..room];
+        let r = device::header(device, buffer);
+        let n = r.written.min(buffer.len());
+        told::header(out, answers::number(r.answer), &buffer[..n])?;
+        self.device = Some(r.device);
+        Ok(())
+    }
+
+    // frame PORT HEX [LISTLEN]. The buffer holds the frame.
+    fn frame<W: Write>(&mut self, out: &mut W, s: &[u8]) -> Result<(), Fault> {
+        let device = self.made()?;
+        let long = list_length(s)?;
+        let port = text::argument(s, 1).ok_or(Fault::Line("not a number of 64 bits"))?;
+        let digits = text::word(s, 2);
+        let count = hexadecimal::count(digits).ok_or(Fault::Line("malformed bytes"))?;
+        let frame = &mut self.buffer[..];
+        let frame = &mut frame[..count.min(ROOM)];
+        hexadecimal::bytes(digits, frame);
+        let list = &mut self.list[..];
+        let list = &mut list[..long];
+        let r = device::frame(
+            device,
+            port,
+            frame,
+            list,
+            &self.flows,
+            &self.heads,
+            &self.members,
+            &self.order,
+        );
+        let numbers = OUTPUT_NUMBERS * r.outputs.min(LIST / OUTPUT_NUMBERS);
+        let n = numbers.min(list.len());
+        told::outputs(out, answers::number(r.answer), r.outputs as u64, &list[..n])?;
+        Ok(())
+    }
+
+    /// Carries out a line that calls a device, whose guest has this memory.
+    pub fn call<W: Write>(
+        &mut self,
+        out: &mut W,
+        s: &[u8],
+        memory: &mut [u8],
+    ) -> Result<(), Fault> {
+        match text::word(s, 0) {
+            b"fresh" => self.fresh(out, s),
+            b"link" => self.link(out, s),
+            b"read" => self.read(out, s),
+            b"write" => self.write(out, s),
+            b"work" => self.work(out, s, memory),
+            b"frame" => self.frame(out, s),
+            b"header" => self.header(out, s),
+            _ => Err(Fault::Line("no call")),
+        }
     }
 }

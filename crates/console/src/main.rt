@@ -2,8 +2,7 @@
 
 #![tactic(auto)]
 
-use std::env::{Env, FillError};
-use std::io;
+use std::env::Env;
 use std::rt::Files;
 
 const HELP: &str = "console [FILE]
@@ -25,42 +24,30 @@ Numbers are decimal or 0x-hexadecimal, bytes hexadecimal, - for none. Lines that
 the program alone always ends with 0.
 ";
 
-// The system's number of the error that a name is too long.
-const NAME_TOO_LONG: i32 = 36;
-
 fn help<T: Print + Eprint>(rt: &T) {
     if let Err(e) = print!(rt; "{HELP}") {
         script::fail(rt, "standard output", &e);
     }
 }
 
-fn run_word<T: Files + Input + Print + Eprint>(rt: &T, word: &[u8]) {
-    match str::from_utf8(word) {
+fn run<T: Env + Files + Input + Print + Eprint>(rt: &T) {
+    if !files::has_argument(rt, 1) {
+        script::run(rt);
+        return;
+    }
+    let mut word = [0; 4096];
+    match files::argument(rt, 1, &mut word) {
         Ok("--help") => help(rt),
         Ok("-") => script::run(rt),
         Ok(path) => script::run_path(rt, path),
-        Err(_) => {
-            let e = io::Error::new(io::ErrorKind::InvalidInput, "not text in UTF-8");
-            script::fail(rt, "FILE", &e);
-        }
-    }
-}
-
-fn run<T: Env + Files + Input + Print + Eprint>(rt: &T, word: &mut [u8; 4096]) {
-    match rt.arg(1, word) {
-        Ok(n) => run_word(rt, &word[..n]),
-        Err(FillError::NotPresent) => script::run(rt),
-        Err(FillError::TooLong) => {
-            script::fail(rt, "FILE", &io::Error::from_raw_os_error(NAME_TOO_LONG));
-        }
+        Err(e) => script::fail(rt, "FILE", &e),
     }
 }
 
 fn main(rt: HostRuntime) {
-    let mut word = [0u8; 4096];
-    if let Err(FillError::NotPresent) = rt.arg(2, &mut word) {
-        run(&rt, &mut word);
-    } else {
+    if files::has_argument(&rt, 2) {
         let _ = eprintln!(rt; "console: more than one argument; console --help says what it takes");
+    } else {
+        run(&rt);
     }
 }

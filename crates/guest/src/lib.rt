@@ -1,92 +1,63 @@
-// Guest memory: the lines that size it, write it and read it.
+//! Guest memory: the lines that size it, write it and read it.
 
 #![tactic(auto)]
 
-use hexadecimal::Counted;
 use lines::{Fault, told};
 use std::io::Write;
-use text::Numeral;
 
-// memory N
-fn resize(s: &[u8], memory: &mut [u8]) -> Result<usize, Fault> {
-    let n = text::arguments(s, 2);
-    if !n.good {
-        return Err(Fault::Line("expected memory N"));
-    }
-    if 1048576 < n.a {
-        return Err(Fault::Line("N is at most 1048576"));
-    }
-    let after = numbers::min(n.a as usize, memory.len());
-    memory[0..after].fill(0);
-    Ok(after)
+/// The most bytes that a guest may have.
+pub const MOST: usize = 1048576;
+
+const OUTSIDE: Fault = Fault::Line("outside memory");
+
+/// Guest memory: the first `size` of its bytes.
+#[derive(Drop)]
+pub struct Memory {
+    pub all: [u8; MOST],
+    pub size: usize,
 }
 
-// poke ADDR HEX
-fn poke(s: &[u8], memory: &mut [u8]) -> Result<(), Fault> {
-    if text::count(s) != 3 {
-        return Err(Fault::Line("expected poke ADDR HEX"));
-    }
-    let Numeral::Number(at) = text::argument(s, 1) else {
-        return Err(Fault::Line("not a number of 64 bits"));
-    };
-    let digits = text::word(s, 2);
-    let Counted::Bytes(n) = hexadecimal::count(digits) else {
-        return Err(Fault::Line("malformed bytes"));
-    };
-    let size = memory.len();
-    if size < n {
-        return Err(Fault::Line("outside memory"));
-    }
-    if ((size - n) as u64) < at {
-        return Err(Fault::Line("outside memory"));
-    }
-    let start = at as usize;
-    let end = start + n;
-    hexadecimal::bytes(digits, &mut memory[start..end]);
-    Ok(())
+// The bytes from an address on, where all of them are inside.
+fn part(memory: &mut [u8], at: u64, n: u64) -> Result<&mut [u8], Fault> {
+    let end = at.checked_add(n).ok_or(OUTSIDE)?;
+    memory.get_mut(at as usize..end as usize).ok_or(OUTSIDE)
 }
 
-// peek ADDR LEN
-fn peek<W: Write>(out: &mut W, s: &[u8], memory: &[u8]) -> Result<(), Fault> {
-    let n = text::arguments(s, 3);
-    if !n.good {
-        return Err(Fault::Line("expected peek ADDR LEN"));
+impl Memory {
+    /// The bytes that the guest has.
+    pub fn bytes(&mut self) -> &mut [u8] {
+        let size = self.size.min(MOST);
+        let all = &mut self.all[..];
+        &mut all[..size]
     }
-    let size = memory.len() as u64;
-    if size < n.b {
-        return Err(Fault::Line("outside memory"));
-    }
-    if size - n.b < n.a {
-        return Err(Fault::Line("outside memory"));
-    }
-    let start = n.a as usize;
-    let end = (n.a + n.b) as usize;
-    told::bytes(out, &memory[start..end])?;
-    Ok(())
-}
 
-// A line that may speak of memory, of which so many bytes are the guest's: their number after it, or none where the line speaks of
-// something else.
-pub fn call<W: Write>(
-    out: &mut W,
-    size: usize,
-    s: &[u8],
-    memory: &mut [u8],
-) -> Result<Option<usize>, Fault> {
-    let n = numbers::min(size, memory.len());
-    match text::word(s, 0) {
-        b"memory" => {
-            let after = resize(s, memory)?;
-            Ok(Some(after))
+    /// memory N: so many zero bytes.
+    pub fn resize(&mut self, s: &[u8]) -> Result<(), Fault> {
+        let [size] = text::arguments::<1>(s).ok_or(Fault::Line("expected memory N"))?;
+        if (MOST as u64) < size {
+            return Err(Fault::Line("N is at most 1048576"));
         }
-        b"poke" => {
-            poke(s, &mut memory[0..n])?;
-            Ok(Some(size))
+        self.size = size as usize;
+        self.bytes().fill(0);
+        Ok(())
+    }
+
+    /// poke ADDR HEX: the guest writes these bytes.
+    pub fn poke(&mut self, s: &[u8]) -> Result<(), Fault> {
+        if text::count(s) != 3 {
+            return Err(Fault::Line("expected poke ADDR HEX"));
         }
-        b"peek" => {
-            peek(out, s, &memory[0..n])?;
-            Ok(Some(size))
-        }
-        _ => Ok(None),
+        let at = text::argument(s, 1).ok_or(Fault::Line("not a number of 64 bits"))?;
+        let digits = text::word(s, 2);
+        let n = hexadecimal::count(digits).ok_or(Fault::Line("malformed bytes"))?;
+        hexadecimal::bytes(digits, part(self.bytes(), at, n as u64)?);
+        Ok(())
+    }
+
+    /// peek ADDR LEN: prints bytes.
+    pub fn peek<W: Write>(&mut self, out: &mut W, s: &[u8]) -> Result<(), Fault> {
+        let [at, n] = text::arguments::<2>(s).ok_or(Fault::Line("expected peek ADDR LEN"))?;
+        told::bytes(out, part(self.bytes(), at, n)?)?;
+        Ok(())
     }
 }

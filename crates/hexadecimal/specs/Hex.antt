@@ -1,19 +1,17 @@
 -- Byte strings of a script: hexadecimal digits, two to a byte, or - for none.
-use Rattle.std.specs.Prelude.{ℕ, ◌+◌, ◌*◌, ◌/◌, ◌%◌, ◌<◌, ◌≡◌, List, Bool, ◌&&◌, length, get_or, ltb, eqb}
+use Rattle.std.specs.Prelude.{ℕ, ◌+◌, ◌*◌, ◌/◌, ◌%◌, ◌<◌, ◌≡◌, List, Bool, ◌&&◌, length, get_or, ltb, eqb, Option, Some, None}
 use Rattle.text.specs.Text.{pick, digit_of, all_digits}
-use Rattle.hexadecimal.specs.declared.Counted.{Counted}
-use Rattle.hexadecimal.specs.declared.Counted.TheVariants.{Malformed, Bytes}
 
 -- the byte - alone
 unfoldable pub is_dash : List ℕ → Bool
 is_dash s = eqb (length s) 1 && eqb (get_or s 0 0) 45
 
--- how many bytes a word stands for
-unfoldable pub counted : List ℕ → Counted
+-- how many bytes a word stands for; none unless it is - or digits, two to a byte
+unfoldable pub counted : List ℕ → Option ℕ
 counted s =
-    pick (is_dash s) (Bytes 0)
-    (pick (eqb (length s) 0) Malformed
-    (pick (eqb (length s % 2) 0) (pick (all_digits 16 s) (Bytes (length s / 2)) Malformed) Malformed))
+    pick (is_dash s) (Some 0)
+    (pick (eqb (length s) 0) None
+    (pick (eqb (length s % 2) 0) (pick (all_digits 16 s) (Some (length s / 2)) None) None))
 
 -- the byte of two digits, the higher first; 0 where one is none
 unfoldable pub pair_of : ℕ → ℕ → ℕ

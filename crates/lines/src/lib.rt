@@ -1,4 +1,4 @@
-// The lines of an input, one at a time, and those of an outcome: told whole (`told`), or in parts (`print`).
+//! The lines of an input, one at a time, and those of an outcome: told whole (`told`), or in parts (`print`).
 
 #![tactic(auto)]
 
@@ -11,7 +11,7 @@ pub mod told;
 use std::io;
 use std::io::Read;
 
-// Why a line has no outcome: it is no call or cannot be carried out, or what it prints cannot be written.
+/// Why a line has no outcome: it is no call or cannot be carried out, or what it prints cannot be written.
 #[derive(Clone, Copy)]
 pub enum Fault {
     Line(&'static str),
@@ -26,110 +26,120 @@ impl From<io::Error> for Fault {
     }
 }
 
-// How far the bytes that were read are used up, and how many they are; the number of the line under way, its bytes so far, whether it is
-// too long and whether it is whole; whether there may be more to read, and why a read failed.
+impl Fault {
+    /// Reports a line of this number on standard error, or hands on why its outcome cannot be written. A report that cannot be written is
+    /// not told anywhere.
+    pub fn report<E: Eprint>(self, rt: &E, program: &str, number: u64) -> io::Result<()> {
+        match self {
+            Fault::Line(why) => {
+                let _ = eprintln!(rt; "{program}: line {number}: {why}");
+                Ok(())
+            }
+            Fault::Output(e) => Err(e),
+        }
+    }
+}
+
+/// What ends a line: a newline, the input's end, or a read that failed, before which the line is not whole.
 #[derive(Clone, Copy)]
-pub struct Reader {
-    pub at: usize,
-    pub got: usize,
-    pub lines: u64,
-    pub used: usize,
-    pub long: bool,
-    pub whole: bool,
-    pub more: bool,
-    pub failure: Option<io::Error>,
+pub enum End {
+    Newline,
+    Input,
+    Failure(io::Error),
 }
 
-pub fn start() -> Reader {
-    Reader {
-        at: 0,
-        got: 0,
-        lines: 0,
-        used: 0,
-        long: false,
-        whole: false,
-        more: true,
-        failure: None,
-    }
+/// A line of an input without its end, LF or CR LF: none where it is too long.
+#[derive(Clone, Copy)]
+pub struct Line<'l> {
+    pub text: Option<&'l [u8]>,
+    pub end: End,
 }
 
-// Bytes of the input up to the line's end, or to the end of what was read. What does not fit makes the line too long.
-fn copy(r: Reader, input: &[u8], line: &mut [u8]) -> Reader {
-    let mut q = r;
-    let end = r.got;
-    let mut at = r.at;
-    let mut used = r.used;
-    while at < end && at < input.len() {
-        let b = input[at];
-        at += 1;
-        if b == b'\n' {
-            q.whole = true;
-            break;
-        }
-        if used < line.len() {
-            line[used] = b;
-            used += 1;
-        } else {
-            q.long = true;
-        }
-    }
-    q.at = at;
-    q.used = used;
-    q
+/// An input that is read by way of a buffer: of the bytes that it holds, those from `at` to `got` are in no line yet.
+#[derive(Drop)]
+pub struct Reader<'a, R: Read> {
+    from: &'a mut R,
+    input: &'a mut [u8],
+    at: usize,
+    got: usize,
+    number: u64,
 }
 
-fn refill<R: Read>(r: Reader, from: &mut R, input: &mut [u8]) -> Reader {
-    let mut q = r;
-    match from.read(input) {
-        Ok(0) => q.more = false,
-        Ok(got) => {
-            q.at = 0;
-            q.got = got;
-        }
-        Err(e) => {
-            q.more = false;
-            q.failure = Some(e);
+// The length of a line with more bytes behind it, none where they do not fit.
+fn append(line: &mut [u8], used: Option<usize>, bytes: &[u8]) -> Option<usize> {
+    let start = used?;
+    let end = start.checked_add(bytes.len())?;
+    line.get_mut(start..end)?.copy_from_slice(bytes);
+    Some(end)
+}
+
+// A line of this length. The CR before a newline is no part of it.
+fn ended<'l>(line: &'l [u8], used: Option<usize>, end: End) -> Line<'l> {
+    let text = used.and_then(|n| line.get(..n));
+    let text = match end {
+        End::Newline => text.map(|s| s.strip_suffix(b"\r").unwrap_or(s)),
+        _ => text,
+    };
+    Line { text, end }
+}
+
+impl<'a, R: Read> Reader<'a, R> {
+    /// An input of which nothing has been read.
+    pub fn new(from: &'a mut R, input: &'a mut [u8]) -> Reader<'a, R> {
+        Reader {
+            from,
+            input,
+            at: 0,
+            got: 0,
+            number: 0,
         }
     }
-    q
-}
 
-fn step<R: Read>(r: Reader, from: &mut R, input: &mut [u8], line: &mut [u8]) -> Reader {
-    if r.at < r.got {
-        return copy(r, input, line);
+    /// The number of the line that was taken last, counted from 1.
+    pub fn number(&self) -> u64 {
+        self.number
     }
-    refill(r, from, input)
-}
 
-// How long a line is without the CR before its LF.
-fn without_cr(line: &[u8], used: usize) -> usize {
-    if 0 < used {
-        let last = used - 1;
-        if last < line.len() {
-            if line[last] == b'\r' {
-                return last;
+    // Takes more of the line under way, up to its end or to that of what was read: what ends it.
+    fn step(&mut self, line: &mut [u8], used: &mut Option<usize>) -> Option<End> {
+        let (at, got) = (self.at, self.got);
+        let unread = self.input.get(at..got).unwrap_or_default();
+        match unread.iter().position(|b| *b == b'\n') {
+            Some(n) => {
+                *used = append(line, *used, &unread[..n]);
+                self.at = at.wrapping_add(n + 1);
+                Some(End::Newline)
+            }
+            None => {
+                *used = append(line, *used, unread);
+                self.refill()
             }
         }
     }
-    used
-}
 
-// The next line, without its end: LF, or CR LF. A last one needs no newline, and keeps a CR; after it stands an empty one. Where a read
-// fails, the line under way is not whole and is no line.
-pub fn take<R: Read>(r: Reader, from: &mut R, input: &mut [u8], line: &mut [u8]) -> Reader {
-    let mut q = r;
-    q.lines = r.lines.wrapping_add(1);
-    q.used = 0;
-    q.long = false;
-    q.whole = false;
-    for _ in 0..u64::MAX {
-        if !q.more || q.whole {
-            break;
+    // Reads into the buffer, all of which is used up: the line's end, where there is nothing more to read.
+    fn refill(&mut self) -> Option<End> {
+        self.at = 0;
+        self.got = 0;
+        match self.from.read(self.input) {
+            Ok(0) => Some(End::Input),
+            Ok(got) => {
+                self.got = got;
+                None
+            }
+            Err(e) => Some(End::Failure(e)),
         }
-        q = step(q, from, input, line);
     }
-    if q.whole {
-        q.used = without_cr(line, q.used);
+
+    /// The next line. A last one needs no newline, and keeps a CR; after one with a newline stands an empty one.
+    pub fn take<'l>(&mut self, line: &'l mut [u8]) -> Line<'l> {
+        self.number = self.number.wrapping_add(1);
+        let mut used = Some(0);
+        for _ in 0..u64::MAX {
+            if let Some(end) = self.step(line, &mut used) {
+                return ended(line, used, end);
+            }
+        }
+        ended(line, used, End::Input)
     }
-    q
 }

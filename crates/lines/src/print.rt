@@ -1,23 +1,27 @@
-// Parts of a line, to a writer, and complaints, on standard error.
-use crate::told;
+//! Parts of a line, to a writer.
 use std::io;
 use std::io::Write;
 
-// A complaint that cannot be written is not told anywhere.
-pub fn complain<E: Eprint>(rt: &E, line: u64, why: &str) {
-    let _ = eprintln!(rt; "console: line {line}: {why}");
-}
-
-// A space, and a number.
+/// A space, and a number.
 pub fn value<W: Write>(out: &mut W, v: u64) -> io::Result<()> {
-    told::next(out, v)
+    write!(out, " {v}")
 }
 
+/// Bytes as digits, - for none. They go in parts of 2048 bytes.
+pub fn bytes<W: Write>(out: &mut W, s: &[u8]) -> io::Result<()> {
+    if s.is_empty() {
+        return out.write_all(b"-");
+    }
+    let mut digits = [0u8; 4096];
+    for piece in s.chunks(2048) {
+        let text = &mut digits[..2 * piece.len()];
+        hexadecimal::spell(piece, text);
+        out.write_all(text)?;
+    }
+    Ok(())
+}
+
+/// The line's end.
 pub fn end<W: Write>(out: &mut W) -> io::Result<()> {
     out.write_all(b"\n")
-}
-
-// Bytes as digits, - for none.
-pub fn bytes<W: Write>(out: &mut W, s: &[u8]) -> io::Result<()> {
-    told::digits(out, s)
 }

@@ -1,162 +1,99 @@
-// Runs a script of register calls on one device: a call a line on standard input, its outcome a line on standard output. A line
-// that cannot be understood is reported on standard error and passed over.
+//! Runs a script of register calls on one device: a call a line on standard input, its outcome a line on standard output. A line
+//! that cannot be understood is reported on standard error and passed over.
 
 #![tactic(auto)]
 
 use lines::told::Gathered;
-use lines::{Fault, Reader, told};
+use lines::{End, Fault, Reader, told};
 use rules::Registers;
 use std::io;
 use std::io::{Read, Write};
-use text::Numeral;
 
 const NOT_A_NUMBER: Fault = Fault::Line("not a number of 64 bits");
 
+// The N numbers behind the name of a call.
+fn numbers<const N: usize>(s: &[u8], expected: Fault) -> Result<[u64; N], Fault> {
+    if text::count(s) != N.saturating_add(1) {
+        return Err(expected);
+    }
+    text::arguments(s).ok_or(NOT_A_NUMBER)
+}
+
 // fresh PORTS SWITCH_ID. A refused one keeps the device that was there.
-fn run_fresh<W: Write>(out: &mut W, d: Registers, s: &[u8]) -> Result<Registers, Fault> {
-    if text::count(s) != 3 {
-        return Err(Fault::Line("expected fresh PORTS SWITCH_ID"));
-    }
-    let Numeral::Number(ports) = text::argument(s, 1) else {
-        return Err(NOT_A_NUMBER);
-    };
-    let Numeral::Number(switch_id) = text::argument(s, 2) else {
-        return Err(NOT_A_NUMBER);
-    };
+fn run_fresh<W: Write>(out: &mut W, d: &mut Registers, s: &[u8]) -> Result<(), Fault> {
+    let [ports, switch_id] = numbers::<2>(s, Fault::Line("expected fresh PORTS SWITCH_ID"))?;
     let r = registers::fresh(ports, switch_id);
-    let answer = r.answer;
-    told::answer(out, answers::number(answer))?;
-    if answers::number(answer) != 0 {
-        return Ok(d);
+    let number = answers::number(r.answer);
+    told::answer(out, number)?;
+    if number == 0 {
+        *d = r.registers;
     }
-    let after = r.registers;
-    Ok(after)
+    Ok(())
 }
 
 // link PORT UP, where UP is 0 or 1.
-fn run_link<W: Write>(out: &mut W, d: Registers, s: &[u8]) -> Result<Registers, Fault> {
-    if text::count(s) != 3 {
-        return Err(Fault::Line("expected link PORT UP"));
-    }
-    let Numeral::Number(port) = text::argument(s, 1) else {
-        return Err(NOT_A_NUMBER);
-    };
-    let Numeral::Number(up) = text::argument(s, 2) else {
-        return Err(NOT_A_NUMBER);
-    };
+fn run_link<W: Write>(out: &mut W, d: &mut Registers, s: &[u8]) -> Result<(), Fault> {
+    let [port, up] = numbers::<2>(s, Fault::Line("expected link PORT UP"))?;
     if 1 < up {
         return Err(Fault::Line("UP is 0 or 1"));
     }
-    let r = registers::link(d, port, up == 1);
-    let answer = r.answer;
-    told::answer(out, answers::number(answer))?;
-    let after = r.registers;
-    Ok(after)
+    let r = registers::link(*d, port, up == 1);
+    told::answer(out, answers::number(r.answer))?;
+    *d = r.registers;
+    Ok(())
 }
 
 // read WIDTH OFFSET
-fn run_read<W: Write>(out: &mut W, d: Registers, s: &[u8]) -> Result<(), Fault> {
-    if text::count(s) != 3 {
-        return Err(Fault::Line("expected read WIDTH OFFSET"));
-    }
-    let Numeral::Number(width) = text::argument(s, 1) else {
-        return Err(NOT_A_NUMBER);
-    };
-    let Numeral::Number(offset) = text::argument(s, 2) else {
-        return Err(NOT_A_NUMBER);
-    };
-    let r = registers::read(d, offset, width);
-    let answer = r.answer;
-    told::value(out, answers::number(answer), r.value)?;
+fn run_read<W: Write>(out: &mut W, d: &Registers, s: &[u8]) -> Result<(), Fault> {
+    let [width, offset] = numbers::<2>(s, Fault::Line("expected read WIDTH OFFSET"))?;
+    let r = registers::read(*d, offset, width);
+    told::value(out, answers::number(r.answer), r.value)?;
     Ok(())
 }
 
 // write WIDTH OFFSET VALUE
-fn run_write<W: Write>(out: &mut W, d: Registers, s: &[u8]) -> Result<Registers, Fault> {
-    if text::count(s) != 4 {
-        return Err(Fault::Line("expected write WIDTH OFFSET VALUE"));
-    }
-    let Numeral::Number(width) = text::argument(s, 1) else {
-        return Err(NOT_A_NUMBER);
-    };
-    let Numeral::Number(offset) = text::argument(s, 2) else {
-        return Err(NOT_A_NUMBER);
-    };
-    let Numeral::Number(value) = text::argument(s, 3) else {
-        return Err(NOT_A_NUMBER);
-    };
-    let r = registers::write(d, offset, width, value);
-    let answer = r.answer;
-    told::raised(out, answers::number(answer), r.interrupt)?;
-    let after = r.registers;
-    Ok(after)
+fn run_write<W: Write>(out: &mut W, d: &mut Registers, s: &[u8]) -> Result<(), Fault> {
+    let [width, offset, value] = numbers::<3>(s, Fault::Line("expected write WIDTH OFFSET VALUE"))?;
+    let r = registers::write(*d, offset, width, value);
+    told::raised(out, answers::number(r.answer), r.interrupt)?;
+    *d = r.registers;
+    Ok(())
 }
 
-// One line. Empty ones and those that begin with # are passed over.
-fn run_line<W: Write>(out: &mut W, d: Registers, s: &[u8]) -> Result<Registers, Fault> {
-    if s.len() == 0 {
-        return Ok(d);
-    }
-    if s[0] == b'#' {
-        return Ok(d);
-    }
+// A call.
+fn run_call<W: Write>(out: &mut W, d: &mut Registers, s: &[u8]) -> Result<(), Fault> {
     match text::word(s, 0) {
         b"fresh" => run_fresh(out, d, s),
         b"link" => run_link(out, d, s),
-        b"read" => {
-            run_read(out, d, s)?;
-            Ok(d)
-        }
+        b"read" => run_read(out, d, s),
         b"write" => run_write(out, d, s),
         _ => Err(Fault::Line("unknown call")),
     }
 }
 
-// The line that a reader has taken.
-fn run_taken<W: Write>(
-    out: &mut W,
-    d: Registers,
-    r: Reader,
-    line: &[u8],
-) -> Result<Registers, Fault> {
-    if r.long {
-        return Err(Fault::Line("too long"));
-    }
-    let used = numbers::min(r.used, line.len());
-    run_line(out, d, &line[0..used])
-}
-
-// The device after a line. One that is reported leaves it.
-fn after_line<E: Eprint>(
-    rt: &E,
-    line: u64,
-    d: Registers,
-    done: Result<Registers, Fault>,
-) -> io::Result<Registers> {
-    match done {
-        Ok(after) => Ok(after),
-        Err(Fault::Line(why)) => {
-            let _ = eprintln!(rt; "registers_run: line {line}: {why}");
-            Ok(d)
-        }
-        Err(Fault::Output(e)) => Err(e),
+// The line that a reader has taken. Empty ones and those that begin with # are passed over.
+fn run_taken<W: Write>(out: &mut W, d: &mut Registers, taken: Option<&[u8]>) -> Result<(), Fault> {
+    match taken.ok_or(Fault::Line("too long"))? {
+        [] | [b'#', ..] => Ok(()),
+        s => run_call(out, d, s),
     }
 }
 
-// Runs the script to its end, or to a write that fails. A proved loop ends, and nothing says that the input does: no run comes to the end
-// of its turns.
+// Runs the script to its end, or to a read or a write that fails: a line that a failed read broke off is run, and no read is told of. A
+// proved loop ends, and nothing says that the input does: no run comes to the end of its turns.
 fn run<E: Eprint, R: Read, W: Write>(rt: &E, from: &mut R, out: &mut W) -> io::Result<()> {
     let mut d = registers::fresh(0, 0).registers;
-    let mut reader = lines::start();
-    let mut input = [0u8; 4096];
-    let mut line = [0u8; 256];
+    let mut input = [0; 4096];
+    let mut line = [0; 256];
+    let mut reader = Reader::new(from, &mut input);
     for _ in 0..u64::MAX {
-        if !reader.more {
+        let taken = reader.take(&mut line);
+        if let Err(fault) = run_taken(out, &mut d, taken.text) {
+            fault.report(rt, "registers_run", reader.number())?;
+        }
+        if !matches!(taken.end, End::Newline) {
             break;
         }
-        reader = lines::take(reader, from, &mut input, &mut line);
-        let done = run_taken(out, d, reader, &line);
-        d = after_line(rt, reader.lines, d, done)?;
     }
     Ok(())
 }

@@ -1,8 +1,5 @@
 -- One line of a script: its words, and the number that a word stands for.
-use Rattle.std.specs.Prelude.{ℕ, zero, suc, ◌+◌, ◌-◌, ◌*◌, ◌^◌, Bool, true, false, ◌&&◌, ◌||◌, List, [], ◌∷◌, length, get_or, take, drop, ltb, eqb}
-use Rattle.text.specs.declared.Numeral.{Numeral}
-use Rattle.text.specs.declared.Numeral.TheVariants.{Malformed, Number}
-use Rattle.text.specs.declared.Numbers.{Numbers}
+use Rattle.std.specs.Prelude.{ℕ, zero, suc, ◌+◌, ◌-◌, ◌*◌, ◌^◌, Bool, true, false, ◌&&◌, List, [], ◌∷◌, length, get_or, take, drop, ltb, eqb, Option, Some, None}
 
 abbrev pub pick : {A : Type 0} → Bool → A → A → A
 pick true a b = a
@@ -41,6 +38,10 @@ digit_of b =
     (pick (ltb b 103) (b - 87)
     16)))))
 
+-- a digit of a base, at most 16; none for any other byte
+unfoldable pub digit_in : ℕ → ℕ → Option ℕ
+digit_in base b = pick (ltb (digit_of b) base) (Some (digit_of b)) None
+
 unfoldable pub all_digits : ℕ → List ℕ → Bool
 all_digits base [] = true
 all_digits base (b ∷ s) = ltb (digit_of b) base && all_digits base s
@@ -51,37 +52,33 @@ value_from base v [] = v
 value_from base v (b ∷ s) = value_from base (v * base + digit_of b) s
 
 -- a number of 64 bits in digits of a base
-unfoldable pub numeral : ℕ → List ℕ → Numeral
-numeral base s = pick (all_digits base s && ltb (value_from base 0 s) (2 ^ 64)) (Number (value_from base 0 s)) Malformed
+unfoldable pub numeral : ℕ → List ℕ → Option ℕ
+numeral base s = pick (all_digits base s && ltb (value_from base 0 s) (2 ^ 64)) (Some (value_from base 0 s)) None
 
 -- something after 0x
 unfoldable pub is_hex : List ℕ → Bool
 is_hex s = ltb 2 (length s) && eqb (get_or s 0 0) 48 && eqb (get_or s 1 0) 120
 
 -- the number of a word; an empty one stands for none
-unfoldable pub number_of : List ℕ → Numeral
-number_of s = pick (eqb (length s) 0) Malformed (pick (is_hex s) (numeral 16 (drop 2 s)) (numeral 10 s))
+unfoldable pub number_of : List ℕ → Option ℕ
+number_of s = pick (eqb (length s) 0) None (pick (is_hex s) (numeral 16 (drop 2 s)) (numeral 10 s))
 
 -- ---- The numbers of a line
 
-unfoldable pub argument_of : ℕ → List ℕ → Numeral
+unfoldable pub argument_of : ℕ → List ℕ → Option ℕ
 argument_of k s = number_of (word_at k s)
 
-unfoldable pub is_number : Numeral → Bool
-is_number Malformed = false
-is_number (Number n) = true
+-- a number before others, where all are well formed
+abbrev pub before : Option ℕ → Option (List ℕ) → Option (List ℕ)
+before None others = None
+before (Some v) None = None
+before (Some v) (Some vs) = Some (v ∷ vs)
 
--- the number that is meant, 0 for none
-unfoldable pub value_of : Numeral → ℕ
-value_of Malformed = 0
-value_of (Number n) = n
+-- so many words as numbers, the first of them that of a number
+unfoldable pub numbers_from : ℕ → ℕ → List ℕ → Option (List ℕ)
+numbers_from k zero s = Some []
+numbers_from k (suc n) s = before (argument_of k s) (numbers_from (suc k) n s)
 
--- what follows the name of a call, on a line of two to four words
-unfoldable pub arguments_of : List ℕ → ℕ → Numbers
-arguments_of s words =
-    record {
-      good = eqb (word_count s) words && is_number (argument_of 1 s) && (ltb words 3 || is_number (argument_of 2 s)) && (ltb words 4 || is_number (argument_of 3 s));
-      a = value_of (argument_of 1 s);
-      b = value_of (argument_of 2 s);
-      c = value_of (argument_of 3 s);
-    }
+-- what follows the name of a call, on a line of so many words behind it
+unfoldable pub arguments_of : ℕ → List ℕ → Option (List ℕ)
+arguments_of n s = pick (eqb (word_count s) (n + 1)) (numbers_from 1 n s) None

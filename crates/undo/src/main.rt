@@ -11,7 +11,6 @@ use std::io;
 use std::io::{ErrorKind, Write};
 use std::rt::Files;
 use tables::Places;
-use text::Numeral;
 use undoing::Undone;
 
 // More than the longest list has: 768 payloads, 203,264 bytes.
@@ -112,7 +111,7 @@ fn undo_arguments<T: Env + Files + Input + Print + Eprint>(rt: &T, n: u64) {
 }
 
 fn undo_number<T: Env + Files + Input + Print + Eprint>(rt: &T, word: &[u8]) {
-    let Numeral::Number(n) = text::number(word) else {
+    let Some(n) = text::number(word) else {
         let _ = eprintln!(rt; "undo: N is no number of 64 bits");
         return;
     };

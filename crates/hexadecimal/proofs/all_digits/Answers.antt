@@ -1,18 +1,11 @@
-use Rattle.text.proofs.Laws.{no_digit, digits_next, digits_end}
-use mathlib.Core.Path.{sym, ◌∙◌}
+use Rattle.std.proofs.Common.{rules, tests}
+use mathlib.Core.Path.{◌∙◌}
+use Rattle.std.specs.Prelude.{is_some}
+use Rattle.std.proofs.lemmas.Iterator.{YieldsList-from_slice}
+use Rattle.std.proofs.lemmas.Iterator.Search.{all_from_yields_List}
+use Rattle.text.specs.Text.{digit_in}
+use Rattle.hexadecimal.proofs.Digits.{all_are}
 use Rattle.hexadecimal.proofs.all_digits.Goals as goal
 
-pub returns-then-digit-ge16 : goal.returns-then-digit-ge16
-returns-then-digit-ge16 c =
-    let s = c.args.s.now in
-    sym (c.loop-i.invariant ∙ no_digit 16 0 c.loop-i.i s c.loop-i-test.true (rw (← c.digit.ensures) c.if-digit-ge16.true))
-
-pub loop-i-preserved : goal.loop-i-preserved
-loop-i-preserved c =
-    let s = c.args.s.now in
-    c.loop-i.invariant ∙ digits_next 16 0 c.loop-i.i s c.loop-i-test.true (rw (← c.digit.ensures) c.if-digit-ge16.false)
-
 pub returns : goal.returns
-returns c =
-    let s = c.args.s.now in
-    sym (c.loop-i.invariant ∙ digits_end 16 0 c.loop-i.i s c.loop-i-test.false)
+returns c = all_from_yields_List (λ b. is_some (digit_in 16 b)) _ _ _ c.all.ensures.ran (YieldsList-from_slice c.args.s.now cc) (λ x b q k. search (rules, tests)) ∙ all_are c.args.s.now

@@ -1,11 +1,6 @@
 use Rattle.hexadecimal.proofs.Filling.{Filled}
 use Rattle.hexadecimal.specs.Hex.{byte_of}
-use lib.ListN.{length}
-use Prim.Native.Nat.{◌-◌}
 use Rattle.hexadecimal.proofs.bytes.Given as goal
 
 abbrev pub invariant-loop-i : goal.invariant-loop-i
 invariant-loop-i l = Filled (byte_of l.s) l.initial.out l.i l.out
-
-abbrev pub decreases-loop-i : goal.decreases-loop-i
-decreases-loop-i l = length l.initial.out - l.i

@@ -1,15 +1,15 @@
+use borrow.Author.Tests.{eq-eqb, ne_eqb}
 use Rattle.hexadecimal.specs.Hex.{spelled_at}
-use borrow.Author.Tests.{lt-ltb, le-ltb, eq-eqb, ne_eqb}
 use Rattle.hexadecimal.proofs.digit.Goals as goal
 
-pub returns-then-k-eq0 : goal.returns-then-k-eq0
+pub returns-in-Some : goal.returns-in-Some
 unfolding spelled_at
-returns-then-k-eq0 c = simp (lt-ltb _ _ c.if-i-s.true, eq-eqb _ _ c.if-k-eq0.true) c.letter.ensures
+returns-in-Some c = let h = c.in-Some.ensures.lookup in simp (← h.0, eq-eqb _ _ c.if-k-eq0.true, ← h.3.1 0) c.letter.ensures
 
-pub returns-then-i-s : goal.returns-then-i-s
+pub returns-in-Some-2 : goal.returns-in-Some-2
 unfolding spelled_at
-returns-then-i-s c = simp (lt-ltb _ _ c.if-i-s.true, ne_eqb _ _ c.if-k-eq0.false) c.letter-then-i-s.ensures
+returns-in-Some-2 c = let h = c.in-Some.ensures.lookup in simp (← h.0, ne_eqb _ _ c.if-k-eq0.false, ← h.3.1 0) c.letter-in-Some-2.ensures
 
-pub returns : goal.returns
+pub returns-in-None : goal.returns-in-None
 unfolding spelled_at
-returns c = simp (le-ltb _ _ c.if-i-s.false)
+returns-in-None c = let h = c.in-None.ensures.lookup in simp (← h.0)

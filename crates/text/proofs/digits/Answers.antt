@@ -1,50 +1,52 @@
--- The digits so far are v, and the rest makes of v what the whole makes of 0; a number too large is found before it passes 64 bits.
--- Assumes nothing.
-use mathlib.Core.Path.{◌∙◌}
-use lib.ListN.{drop, get_or}
-use Rattle.text.specs.Text.{digit_of}
-use Rattle.text.proofs.Laws.{value_grows, value_next, digits_next, no_digit, room, no_room, not_digits, too_large, is_number, value_ends, digits_end}
-use Prim.Native.Nat.{◌+◌, ◌-◌, ◌*◌, ◌≤◌, ◌<◌, ◌^◌}
+use Prim.Native.Nat.{◌<◌, ◌+◌, ◌*◌}
+use mathlib.Core.Path.{◌≡◌, ◌∙◌}
+use lib.ListN.{get_or}
 use native.Mathlib.Omega.{arith}
+use Rattle.text.specs.Text.{digit_of}
+use Rattle.text.proofs.Laws.{value_next, value_past, digits_next, no_digit, no_digit_given, a_digit_given, not_digits, too_large, is_number, value_ends, digits_end}
 use Rattle.text.proofs.digits.Goals as goal
-use Rattle.text.proofs.digits.Goals.{Else-d-base}
+use Rattle.text.proofs.digits.Goals.{In_ok-d, After-checked_mul}
 
-pub returns-then-base-d : goal.returns-then-base-d
-returns-then-base-d c =
+pub returns-in_err-d : goal.returns-in_err-d
+returns-in_err-d c =
     let a = c.args in
-    not_digits a.base a.s.now (c.loop-i.invariant.0 ∙ no_digit a.base c.loop-i.v c.loop-i.i a.s.now c.loop-i-test.true (rw (← c.digit-d.ensures) c.if-base-d.true))
+    let n = no_digit_given a.base (get_or a.s.now c.loop-b.b-index 0) c.requires.upper_bound _ c.in_err-d.was (rw c.from.ensures at c.to_digit.ensures.value) in
+    c.from_residual.ensures ∙ not_digits a.base a.s.now (c.loop-b.invariant.digits ∙ no_digit a.base c.loop-b.v c.loop-b.b-index a.s.now c.loop-b-test.true n)
 
-pub returns-then-d-base : goal.returns-then-d-base
-returns-then-d-base c =
+-- the digit at hand
+digit : (c : In_ok-d) → (digit_of (get_or c.args.s.now c.loop-b.b-index 0) < c.args.base) × (c.in_ok-d.d ≡ digit_of (get_or c.args.s.now c.loop-b.b-index 0))
+digit c = a_digit_given c.args.base _ c.requires.upper_bound _ _ c.in_ok-d.was (rw c.from.ensures at c.to_digit.ensures.value)
+
+pub returns-in_err-checked_mul : goal.returns-in_err-checked_mul
+returns-in_err-checked_mul c =
     let a = c.args in
-    let d = c.digit-d in
-    let h = c.loop-i-test.true in
-    let g = digit_of (get_or a.s.now c.loop-i.i 0) in
-    let n = no_room c.loop-i.v a.base d.result c.requires c.if-d-base.true in
-    too_large a.base a.s.now
-    (omega (arith, c.loop-i.invariant.1, value_next a.base c.loop-i.v c.loop-i.i a.s.now h, value_grows a.base (c.loop-i.v * a.base + g) (drop (c.loop-i.i + 1) a.s.now) c.requires, d.ensures, n))
+    let l = value_past a.base c.loop-b.v c.loop-b.b-index a.s.now c.loop-b-test.true (omega (arith, c.requires.lower_bound)) (omega (arith, rw c.from-in-loop-b.ensures at c.in_err-checked_mul.ensures)) in
+    c.from_residual-in_err-checked_mul.ensures ∙ too_large a.base a.s.now (omega (arith, l, c.loop-b.invariant.value))
 
--- with its next digit the number still fits
-fits : (c : Else-d-base) → c.loop-i.v * c.args.base ≤ 2 ^ 64 - 1 - c.digit-d.result
-fits c = room _ _ _ c.requires c.if-d-base.false
-
-pub overflow_mul-v : goal.overflow_mul-v
-overflow_mul-v c = omega (arith, fits (goal.at.overflow_mul-v c).Else-d-base)
-
-pub overflow_add-v : goal.overflow_add-v
-overflow_add-v c = omega (arith, fits (goal.at.overflow_add-v c).Else-d-base)
-
-pub loop-i-preserved : goal.loop-i-preserved
-loop-i-preserved c =
+pub returns-in_err-v : goal.returns-in_err-v
+returns-in_err-v c =
     let a = c.args in
-    let d = c.digit-d in
-    let h = c.loop-i-test.true in
+    let d = digit (goal.at.returns-in_err-v c).In_ok-d in
+    let m = rw c.from-in-loop-b.ensures at c.in_ok-checked_mul.ensures.1 in
+    let l = value_past a.base c.loop-b.v c.loop-b.b-index a.s.now c.loop-b-test.true (omega (arith, c.requires.lower_bound)) (omega (arith, c.in_err-v.ensures, c.from-in-loop-b-2.ensures, m, d.1)) in
+    c.from_residual-in_err-v.ensures ∙ too_large a.base a.s.now (omega (arith, l, c.loop-b.invariant.value))
+
+pub loop-b-preserved : goal.loop-b-preserved
+loop-b-preserved c =
+    let a = c.args in
     let s = a.s.now in
-    let e : digit_of (get_or s c.loop-i.i 0) < a.base = rw (← d.ensures) c.if-base-d.false in
-    (c.loop-i.invariant.0 ∙ digits_next a.base c.loop-i.v c.loop-i.i s h e, c.loop-i.invariant.1 ∙ value_next a.base c.loop-i.v c.loop-i.i s h ∙ rw d.ensures, omega (arith, fits (goal.at.loop-i-preserved c).Else-d-base))
+    let i = c.loop-b.b-index in
+    let d = digit (goal.at.loop-b-preserved c).In_ok-d in
+    let m = rw c.from-in-loop-b.ensures at c.in_ok-checked_mul.ensures.1 in
+    let e : c.in_ok-v.v ≡ c.loop-b.v * a.base + digit_of (get_or s i 0) = omega (arith, c.in_ok-v.ensures.1, c.from-in-loop-b-2.ensures, m, d.1) in
+    record {
+      digits = c.loop-b.invariant.digits ∙ digits_next a.base c.loop-b.v i s c.loop-b-test.true d.0;
+      value = c.loop-b.invariant.value ∙ value_next a.base c.loop-b.v i s c.loop-b-test.true ∙ rw e;
+      fits = omega (arith, c.in_ok-v.ensures);
+    }
 
 pub returns : goal.returns
 returns c =
     let a = c.args in
     let s = a.s.now in
-    is_number a.base c.loop-i.v s (c.loop-i.invariant.0 ∙ digits_end a.base c.loop-i.v c.loop-i.i s c.loop-i-test.false) (c.loop-i.invariant.1 ∙ value_ends a.base c.loop-i.v c.loop-i.i s c.loop-i-test.false) c.loop-i.invariant.2
+    is_number a.base c.loop-b.v s (c.loop-b.invariant.digits ∙ digits_end a.base c.loop-b.v c.loop-b.b-index s c.loop-b-test.false) (c.loop-b.invariant.value ∙ value_ends a.base c.loop-b.v c.loop-b.b-index s c.loop-b-test.false) c.loop-b.invariant.fits
