@@ -3,11 +3,37 @@
 
 #![tactic(auto)]
 
+use device::Called;
 use hexadecimal::Counted;
 use lines::{Fault, told};
-use rules::{Device, FlowOrder, FlowRows, GroupHeads, GroupMembers, LIST_NUMBERS, OUTPUT_NUMBERS};
+use rules::{
+    Device, FlowOrder, FlowRows, GroupHeads, GroupMembers, LIST_NUMBERS, OUTPUT_NUMBERS, Refusal,
+};
 use std::io::Write;
 use text::Numeral;
+
+// The device after a call: one that was refused leaves it.
+fn after(d: Device, r: Result<Called, Refusal>) -> Device {
+    match r {
+        Ok(called) => called.device,
+        Err(_) => d,
+    }
+}
+
+// Whether a call raised the vector, and how many bytes it wrote into the buffer: a refused one nothing.
+fn raised(r: Result<Called, Refusal>) -> bool {
+    match r {
+        Ok(called) => called.interrupt,
+        Err(_) => false,
+    }
+}
+
+fn written(r: Result<Called, Refusal>) -> usize {
+    match r {
+        Ok(called) => called.written,
+        Err(_) => 0,
+    }
+}
 
 // link PORT UP
 fn link<W: Write>(out: &mut W, d: Device, s: &[u8]) -> Result<Device, Fault> {
@@ -19,10 +45,8 @@ fn link<W: Write>(out: &mut W, d: Device, s: &[u8]) -> Result<Device, Fault> {
         return Err(Fault::Line("UP is 0 or 1"));
     }
     let r = device::link(d, n.a, n.b == 1);
-    let answer = r.answer;
-    let after = r.device;
-    told::answer(out, answers::number(answer))?;
-    Ok(after)
+    told::answer(out, answers::answer_number(&r))?;
+    Ok(after(d, r))
 }
 
 // read WIDTH OFFSET
@@ -32,10 +56,12 @@ fn read<W: Write>(out: &mut W, d: Device, s: &[u8]) -> Result<Device, Fault> {
         return Err(Fault::Line("expected read WIDTH OFFSET"));
     }
     let r = device::read(d, n.b, n.a);
-    let answer = r.answer;
-    let after = r.device;
-    told::value(out, answers::number(answer), r.value)?;
-    Ok(after)
+    let value = match r {
+        Ok(called) => called.value,
+        Err(_) => 0,
+    };
+    told::value(out, answers::answer_number(&r), value)?;
+    Ok(d)
 }
 
 // write WIDTH OFFSET VALUE
@@ -45,10 +71,8 @@ fn write<W: Write>(out: &mut W, d: Device, s: &[u8]) -> Result<Device, Fault> {
         return Err(Fault::Line("expected write WIDTH OFFSET VALUE"));
     }
     let r = device::write(d, n.b, n.a, n.c);
-    let answer = r.answer;
-    let after = r.device;
-    told::raised(out, answers::number(answer), r.interrupt)?;
-    Ok(after)
+    told::raised(out, answers::answer_number(&r), raised(r))?;
+    Ok(after(d, r))
 }
 
 // How many bytes of the buffer `work` or `header` may use.
@@ -74,11 +98,9 @@ fn worked<W: Write>(
     order: &mut FlowOrder,
 ) -> Result<Device, Fault> {
     let r = device::process(d, memory, buffer, flows, heads, members, order);
-    let answer = r.answer;
-    let after = r.device;
-    let n = numbers::min(r.written, buffer.len());
-    told::record(out, answers::number(answer), r.interrupt, &buffer[0..n])?;
-    Ok(after)
+    let n = numbers::min(written(r), buffer.len());
+    told::record(out, answers::answer_number(&r), raised(r), &buffer[0..n])?;
+    Ok(after(d, r))
 }
 
 // work ROOM
@@ -109,11 +131,9 @@ fn work<W: Write>(
 
 fn headed<W: Write>(out: &mut W, d: Device, buffer: &mut [u8]) -> Result<Device, Fault> {
     let r = device::header(d, buffer);
-    let answer = r.answer;
-    let after = r.device;
-    let n = numbers::min(r.written, buffer.len());
-    told::header(out, answers::number(answer), &buffer[0..n])?;
-    Ok(after)
+    let n = numbers::min(written(r), buffer.len());
+    told::header(out, answers::answer_number(&r), &buffer[0..n])?;
+    Ok(d)
 }
 
 // header ROOM
@@ -153,10 +173,12 @@ fn forward<W: Write>(
     order: &FlowOrder,
 ) -> Result<(), Fault> {
     let r = device::frame(d, port, f, list, flows, heads, members, order);
-    let answer = r.answer;
-    let n = r.outputs;
+    let n = match r {
+        Ok(called) => called.outputs,
+        Err(_) => 0,
+    };
     let count = OUTPUT_NUMBERS * numbers::min(n, 113);
-    told::outputs(out, answers::number(answer), n as u64, list, count)?;
+    told::outputs(out, answers::answer_number(&r), n as u64, list, count)?;
     Ok(())
 }
 

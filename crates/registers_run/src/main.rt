@@ -5,12 +5,20 @@
 
 use lines::told::Gathered;
 use lines::{Fault, Reader, told};
-use rules::Registers;
+use rules::{Refusal, Registers};
 use std::io;
 use std::io::{Read, Write};
 use text::Numeral;
 
 const NOT_A_NUMBER: Fault = Fault::Line("not a number of 64 bits");
+
+// The registers after a call: one that was refused leaves them.
+fn kept_or(d: Registers, r: Result<Registers, Refusal>) -> Registers {
+    match r {
+        Ok(after) => after,
+        Err(_) => d,
+    }
+}
 
 // fresh PORTS SWITCH_ID. A refused one keeps the device that was there.
 fn run_fresh<W: Write>(out: &mut W, d: Registers, s: &[u8]) -> Result<Registers, Fault> {
@@ -24,13 +32,8 @@ fn run_fresh<W: Write>(out: &mut W, d: Registers, s: &[u8]) -> Result<Registers,
         return Err(NOT_A_NUMBER);
     };
     let r = registers::fresh(ports, switch_id);
-    let answer = r.answer;
-    told::answer(out, answers::number(answer))?;
-    if answers::number(answer) != 0 {
-        return Ok(d);
-    }
-    let after = r.registers;
-    Ok(after)
+    told::answer(out, answers::answer_number(&r))?;
+    Ok(kept_or(d, r))
 }
 
 // link PORT UP, where UP is 0 or 1.
@@ -48,10 +51,8 @@ fn run_link<W: Write>(out: &mut W, d: Registers, s: &[u8]) -> Result<Registers, 
         return Err(Fault::Line("UP is 0 or 1"));
     }
     let r = registers::link(d, port, up == 1);
-    let answer = r.answer;
-    told::answer(out, answers::number(answer))?;
-    let after = r.registers;
-    Ok(after)
+    told::answer(out, answers::answer_number(&r))?;
+    Ok(kept_or(d, r))
 }
 
 // read WIDTH OFFSET
@@ -66,8 +67,11 @@ fn run_read<W: Write>(out: &mut W, d: Registers, s: &[u8]) -> Result<(), Fault> 
         return Err(NOT_A_NUMBER);
     };
     let r = registers::read(d, offset, width);
-    let answer = r.answer;
-    told::value(out, answers::number(answer), r.value)?;
+    let value = match r {
+        Ok(value) => value,
+        Err(_) => 0,
+    };
+    told::value(out, answers::answer_number(&r), value)?;
     Ok(())
 }
 
@@ -86,10 +90,15 @@ fn run_write<W: Write>(out: &mut W, d: Registers, s: &[u8]) -> Result<Registers,
         return Err(NOT_A_NUMBER);
     };
     let r = registers::write(d, offset, width, value);
-    let answer = r.answer;
-    told::raised(out, answers::number(answer), r.interrupt)?;
-    let after = r.registers;
-    Ok(after)
+    let interrupt = match r {
+        Ok(written) => written.interrupt,
+        Err(_) => false,
+    };
+    told::raised(out, answers::answer_number(&r), interrupt)?;
+    match r {
+        Ok(written) => Ok(written.registers),
+        Err(_) => Ok(d),
+    }
 }
 
 // One line. Empty ones and those that begin with # are passed over.
@@ -146,7 +155,7 @@ fn after_line<E: Eprint>(
 // Runs the script to its end, or to a write that fails. A proved loop ends, and nothing says that the input does: no run comes to the end
 // of its turns.
 fn run<E: Eprint, R: Read, W: Write>(rt: &E, from: &mut R, out: &mut W) -> io::Result<()> {
-    let mut d = registers::fresh(0, 0).registers;
+    let mut d = registers::none();
     let mut reader = lines::start();
     let mut input = [0u8; 4096];
     let mut line = [0u8; 256];

@@ -48,16 +48,15 @@ fn run_fresh<W: Write>(
         return Err(Fault::Line("expected fresh PORTS SWITCH_ID"));
     }
     let r = device::fresh(n.a, n.b, flows, heads, members, order);
-    let answer = r.answer;
-    told::answer(out, answers::number(answer))?;
-    if answers::number(answer) != 0 {
-        return Ok(p);
+    told::answer(out, answers::answer_number(&r))?;
+    match r {
+        Ok(device) => Ok(Console {
+            made: true,
+            device,
+            ..p
+        }),
+        Err(_) => Ok(p),
     }
-    let d = r.device;
-    let mut q = p;
-    q.device = d;
-    q.made = true;
-    Ok(q)
 }
 
 // Empty lines and those that begin with #.
@@ -217,22 +216,14 @@ fn turn<E: Eprint, R: Read, W: Write>(
     after_line(rt, p, reader, done)
 }
 
-fn begin(
-    flows: &mut FlowRows,
-    heads: &mut GroupHeads,
-    members: &mut GroupMembers,
-    order: &mut FlowOrder,
-) -> Script {
-    let none = device::fresh(0, 0, flows, heads, members, order);
-    let d = none.device;
-    let reader = lines::start();
+fn begin() -> Script {
     Script {
         console: Console {
             memory: 0,
             made: false,
-            device: d,
+            device: device::none(),
         },
-        reader: reader,
+        reader: lines::start(),
         more: true,
         unwritten: None,
     }
@@ -298,7 +289,7 @@ pub fn run_from<E: Eprint, R: Read, W: Write>(rt: &E, from: &mut R, name: &str, 
     let mut heads = [[0u32; HEAD_WORDS]; MAX_GROUPS];
     let mut members = [[0u16; MAX_MEMBERS]; MAX_GROUPS];
     let mut order = [0u8; MAX_FLOWS];
-    let mut t = begin(&mut flows, &mut heads, &mut members, &mut order);
+    let mut t = begin();
     let mut input = [0u8; 65536];
     let mut line = [0u8; 65535];
     let mut memory = [0u8; 1048576];
