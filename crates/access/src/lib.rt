@@ -3,13 +3,14 @@
 #![tactic(auto)]
 
 ghost use Rattle.std.specs.Prelude.{◌≡◌, ◌+◌, ◌-◌, ◌≤◌};
-ghost use Rattle.rules.specs.Answers.{number};
+ghost use Rattle.rules.specs.Answers.{answer_number};
 ghost use Rattle.rules.specs.Registers.{register_at, is_wide, upper_of, narrow_at, covered_by, wide_at, access, access_refusal};
 ghost use Rattle.access.specs.Shapes.{is_narrow, is_eight};
 
-use rules::{Access, Answer, Register, RingRegister};
+use rules::{Access, Refusal, Register, RingRegister};
 
 // The register that starts at an offset.
+#[tactic(auto, unfolding(rules::specs::Registers::register_at))]
 fn register_at(offset: u64) -> Option<Register>
     ensures { result ≡ register_at offset }
 {
@@ -33,34 +34,29 @@ fn register_at(offset: u64) -> Option<Register>
 }
 
 // Whether a register has 8 bytes.
+#[tactic(auto, unfolding(rules::specs::Registers::is_wide))]
 fn is_wide(r: Register) -> bool
     ensures { result ≡ is_wide r }
 {
     match r {
-        Register::Magic => true,
-        Register::TestReg => false,
-        Register::TestReg64 => true,
-        Register::Control => false,
-        Register::PortPhysCount => false,
-        Register::PortPhysLinkStatus => true,
-        Register::PortPhysEnable => true,
-        Register::SwitchId => true,
+        Register::Magic
+        | Register::TestReg64
+        | Register::PortPhysLinkStatus
+        | Register::PortPhysEnable
+        | Register::SwitchId => true,
+        Register::TestReg | Register::Control | Register::PortPhysCount => false,
         Register::OfRing(_, which) => ring::is_wide(which),
     }
 }
 
 // The upper half of a register that starts 4 bytes before.
+#[tactic(auto, unfolding(rules::specs::Registers::upper_of))]
 fn upper_of(before: Option<Register>) -> Access
     ensures { result ≡ upper_of before }
 {
     match before {
-        None => Access::Reserved,
-        Some(r) => {
-            if is_wide(r) {
-                return Access::Upper(r);
-            }
-            Access::Reserved
-        }
+        Some(r) if is_wide(r) => Access::Upper(r),
+        _ => Access::Reserved,
     }
 }
 
@@ -68,24 +64,22 @@ fn upper_of(before: Option<Register>) -> Access
 fn before(offset: u64) -> u64
     ensures { result ≡ offset - 4 }
 {
-    if offset < 4 { 0 } else { offset - 4 }
+    offset.saturating_sub(4)
 }
 
 // What 4 bytes reach.
+#[tactic(auto, unfolding(rules::specs::Registers::narrow_at))]
 fn narrow_at(offset: u64) -> Access
     ensures { result ≡ narrow_at (register_at offset) (register_at (offset - 4)) }
 {
     match register_at(offset) {
         None => upper_of(register_at(before(offset))),
-        Some(r) => {
-            if is_wide(r) {
-                return Access::Lower(r);
-            }
-            Access::Whole(r)
-        }
+        Some(r) if is_wide(r) => Access::Lower(r),
+        Some(r) => Access::Whole(r),
     }
 }
 
+#[tactic(auto, unfolding(rules::specs::Registers::covered_by))]
 fn covered_by(after: Option<Register>) -> Access
     ensures { result ≡ covered_by after }
 {
@@ -96,27 +90,26 @@ fn covered_by(after: Option<Register>) -> Access
 }
 
 // What 8 bytes reach: a register of 4 among them refuses the access.
+#[tactic(auto, unfolding(rules::specs::Registers::wide_at))]
 fn wide_at(offset: u64) -> Access
     requires { offset + 8 ≤ 0x2000 }
     ensures { result ≡ wide_at (register_at offset) (register_at (offset + 4)) }
 {
     match register_at(offset) {
         None => covered_by(register_at(offset + 4)),
-        Some(r) => {
-            if is_wide(r) {
-                return Access::Whole(r);
-            }
-            Access::NotAllowed
-        }
+        Some(r) if is_wide(r) => Access::Whole(r),
+        Some(_) => Access::NotAllowed,
     }
 }
 
+#[tactic(auto, unfolding(crate::specs::Shapes::is_narrow))]
 fn is_narrow(offset: u64, width: u64) -> bool
     ensures { result ≡ is_narrow offset width }
 {
     (width == 4) & (offset % 4 == 0) & (offset <= 0x1ffc)
 }
 
+#[tactic(auto, unfolding(crate::specs::Shapes::is_eight))]
 fn is_eight(offset: u64, width: u64) -> bool
     ensures { result ≡ is_eight offset width }
 {
@@ -135,14 +128,13 @@ pub fn access(offset: u64, width: u64) -> Access
     Access::NotAllowed
 }
 
-pub fn answer_of(a: Access) -> Answer
-    ensures { number result ≡ access_refusal a }
+/// Whether an access is allowed at all; else it is refused with `AccessNotAllowed`.
+#[tactic(auto, unfolding(rules::specs::Registers::access_refusal, rules::specs::Answers::answer_number, rules::specs::Answers::refusal_number))]
+pub fn allowed(a: Access) -> Result<(), Refusal>
+    ensures { answer_number result ≡ access_refusal a }
 {
     match a {
-        Access::NotAllowed => Answer::AccessNotAllowed,
-        Access::Reserved => Answer::Done,
-        Access::Whole(_) => Answer::Done,
-        Access::Lower(_) => Answer::Done,
-        Access::Upper(_) => Answer::Done,
+        Access::NotAllowed => Err(Refusal::AccessNotAllowed),
+        _ => Ok(()),
     }
 }

@@ -5,8 +5,11 @@
 
 ghost use Rattle.std.specs.Prelude.{◌≤◌, IfOk};
 
+use device::Called;
 use lines::{Fault, told};
-use rules::{Device, FlowOrder, FlowRows, GroupHeads, GroupMembers, LIST_NUMBERS, OUTPUT_NUMBERS};
+use rules::{
+    Device, FlowOrder, FlowRows, GroupHeads, GroupMembers, LIST_NUMBERS, OUTPUT_NUMBERS, Refusal,
+};
 use std::io::Write;
 
 /// The most bytes that a record, a frame or a header may have.
@@ -54,6 +57,11 @@ fn list_length(s: &[u8]) -> Result<usize, Fault>
     Ok(n as usize)
 }
 
+// What a call gives: a refused one tells nothing and leaves the device.
+fn called(device: Device, outcome: Result<Called, Refusal>) -> Called {
+    outcome.unwrap_or(device::quiet(device))
+}
+
 impl Host {
     // The device that there is.
     fn made(&self) -> Result<Device, Fault> {
@@ -73,11 +81,8 @@ impl Host {
             &mut self.members,
             &mut self.order,
         );
-        let number = answers::number(r.answer);
-        told::answer(out, number)?;
-        if number == 0 {
-            self.device = Some(r.device);
-        }
+        told::answer(out, answers::answer_number(&r))?;
+        self.device = r.ok().or(self.device);
         Ok(())
     }
 
@@ -89,8 +94,8 @@ impl Host {
             return Err(Fault::Line("UP is 0 or 1"));
         }
         let r = device::link(device, port, up == 1);
-        told::answer(out, answers::number(r.answer))?;
-        self.device = Some(r.device);
+        told::answer(out, answers::answer_number(&r))?;
+        self.device = Some(called(device, r).device);
         Ok(())
     }
 
@@ -101,8 +106,7 @@ impl Host {
             "expected read WIDTH OFFSET",
         ))?;
         let r = device::read(device, offset, width);
-        told::value(out, answers::number(r.answer), r.value)?;
-        self.device = Some(r.device);
+        told::value(out, answers::answer_number(&r), called(device, r).value)?;
         Ok(())
     }
 
@@ -113,8 +117,9 @@ impl Host {
             "expected write WIDTH OFFSET VALUE",
         ))?;
         let r = device::write(device, offset, width, value);
-        told::raised(out, answers::number(r.answer), r.interrupt)?;
-        self.device = Some(r.device);
+        let called = called(device, r);
+        told::raised(out, answers::answer_number(&r), called.interrupt)?;
+        self.device = Some(called.device);
         Ok(())
     }
 
@@ -133,9 +138,10 @@ impl Host {
             &mut self.members,
             &mut self.order,
         );
-        let n = r.written.min(buffer.len());
-        told::record(out, answers::number(r.answer), r.interrupt, &buffer[..n])?;
-        self.device = Some(r.device);
+        let called = called(device, r);
+        let n = called.written.min(buffer.len());
+        told::record(out, answers::answer_number(&r), called.interrupt, &buffer[..n])?;
+        self.device = Some(called.device);
         Ok(())
     }
 
@@ -146,9 +152,8 @@ impl Host {
         let buffer = &mut self.buffer[..];
         let buffer = &mut buffer[..room];
         let r = device::header(device, buffer);
-        let n = r.written.min(buffer.len());
-        told::header(out, answers::number(r.answer), &buffer[..n])?;
-        self.device = Some(r.device);
+        let n = called(device, r).written.min(buffer.len());
+        told::header(out, answers::answer_number(&r), &buffer[..n])?;
         Ok(())
     }
 
@@ -174,9 +179,10 @@ impl Host {
             &self.members,
             &self.order,
         );
-        let numbers = OUTPUT_NUMBERS * r.outputs.min(LIST / OUTPUT_NUMBERS);
+        let outputs = called(device, r).outputs;
+        let numbers = OUTPUT_NUMBERS * outputs.min(LIST / OUTPUT_NUMBERS);
         let n = numbers.min(list.len());
-        told::outputs(out, answers::number(r.answer), r.outputs as u64, &list[..n])?;
+        told::outputs(out, answers::answer_number(&r), outputs as u64, &list[..n])?;
         Ok(())
     }
 

@@ -1,3 +1,2 @@
 -- Laws of the C interface.
-mod Numbers
 mod Outcomes

@@ -4,21 +4,22 @@ use Prim.Native.Nat.{ℕ, ◌≤◌, ◌<◌}
 use mathlib.Core.Bool.{Bool, true, false}
 use mathlib.Core.Path.{◌≡◌, refl, sym, ◌∙◌}
 use mathlib.Core.List.{List}
+use Rattle.std.specs.Prelude.{Result as Either, Ok, Err}
 use lib.Dec.{eqb}
 use native.Mathlib.Omega.{arith}
 use borrow.Author.Tests.{eq-eqb, ne_eqb, lt-ltb, le-ltb}
-use Rattle.rules.specs.Answers.{number}
+use Rattle.rules.specs.Answers.{refusal_number, answer_number}
 use Rattle.rules.specs.Choose.{choose}
 use Rattle.rules.specs.Members.{elem}
 use Rattle.rules.specs.Journal.{completion}
 use Rattle.rules.specs.Switch.{Switch, Storage, Borrowed, Result, switch_of, unchanged, unless_refused, read_effect, write_effect, linked, process_effect_by, framed, headed, refusal, effect, effect_by, step, step_by, fresh_refusal}
+use Rattle.rules.specs.declared.Refusal.{Refusal}
+use Rattle.answers.proofs.Refusals.{refusal_positive}
 use Rattle.rules.specs.declared.Device.{Device}
 use Rattle.rules.specs.declared.Request.{Request}
 use Rattle.rules.specs.declared.Request.TheVariants.{Read, Write, Link, Process, Frame, Header}
-use Rattle.rules.proofs.Cases.{by_eq}
 use Rattle.device.specs.Outcome as device
 use Rattle.device.specs.declared.Called.{Called}
-use Rattle.device.specs.declared.Made.{Made}
 use Rattle.words.specs.Words.{device_in}
 use Rattle.capi.specs.Asking.{ask_refusal, request_of, asked}
 use Rattle.capi.specs.Outcome.{Outcome, Stored, FreshOutcome, numbers_of, told_in, bit_of, six}
@@ -97,7 +98,17 @@ module _ (s : Switch) (x : Borrowed) where
 
 -- ---- The end of a call
 
-module _ (w : List ℕ) (d : Device) (a : Storage) (x : Borrowed) (q : Request) (is : d ≡ device_in w) {a' : Storage} {r : Called} {memory buffer list : List ℕ}
+device_stored : (d : Device) (w w' : List ℕ) (answer : ℕ) (r : Either Called Refusal) → d ≡ device_in w → Stored answer r w w'
+    → device_in w' ≡ device.device_after d r
+device_stored d w w' answer (Ok c) is s = s.done
+device_stored d w w' answer (Err e) is s = rw s.kept (sym is)
+
+words_kept : (w w' : List ℕ) (answer : ℕ) (r : Either Called Refusal) → Stored answer r w w' → (answer_number r ≡ 0 → ⊥) → w' ≡ w
+unfolding answer_number
+words_kept w w' answer (Ok c) s n = absurd (n refl)
+words_kept w w' answer (Err e) s n = s.kept
+
+module _ (w : List ℕ) (d : Device) (a : Storage) (x : Borrowed) (q : Request) (is : d ≡ device_in w) {a' : Storage} {r : Either Called Refusal} {memory buffer list : List ℕ}
     (o : device.Outcome r d a a' memory buffer list (step (switch_of d a) x q)) where
   -- no place changes where the call is refused
   places_stay : ((step (switch_of d a) x q).answer ≡ 0 → ⊥) → a' ≡ a
@@ -105,11 +116,10 @@ module _ (w : List ℕ) (d : Device) (a : Storage) (x : Borrowed) (q : Request) 
   places_stay n = o.places_kept (λ e. absurd (let y = sym (nothing_completed _ x q n) ∙ e in omega arith))
 
   -- the words hold the device after it, or are as they were
-  pub stored : {answer : ℕ} {w' out : List ℕ} → out ≡ given_by q (step (switch_of d a) x q) → Stored answer r.answer r.device w w'
+  pub stored : {answer : ℕ} {w' out : List ℕ} → out ≡ given_by q (step (switch_of d a) x q) → Stored answer r w w'
       → Outcome answer w w' a a' out memory buffer list (step (switch_of (device_in w) a) x q)
   stored {answer} {w'} g s =
       let e : answer ≡ (step (switch_of d a) x q).answer = s.answer_is ∙ o.answer_is in
-      let same : (answer ≡ 0 → ⊥) → device_in w' ≡ r.device = λ n. rw (s.kept n) (sym is ∙ sym (o.device_kept (λ z. n (e ∙ z)))) in
       rw (← is)
       (record {
         answer_is = e;
@@ -117,13 +127,13 @@ module _ (w : List ℕ) (d : Device) (a : Storage) (x : Borrowed) (q : Request) 
         memory_is = o.memory_is;
         buffer_is = o.buffer_is;
         list_is = o.list_is;
-        switch_is = by_eq answer 0 (λ z t. rw (s.done z) o.switch_is) (λ n t. rw (same n) o.switch_is);
-        kept = λ n. (s.kept (λ z. n (sym e ∙ z)), places_stay n);
+        switch_is = rw (device_stored d w w' answer r is s) o.switch_is;
+        kept = λ n. (words_kept w w' answer r s (λ z. n (sym o.answer_is ∙ z)), places_stay n);
         places_kept = o.places_kept;
       })
 
   -- nothing that the host holds is written
-  pub looked_at : {answer : ℕ} {out : List ℕ} → out ≡ given_by q (step (switch_of d a) x q) → answer ≡ number r.answer → (step (switch_of d a) x q).switch ≡ switch_of d a
+  pub looked_at : {answer : ℕ} {out : List ℕ} → out ≡ given_by q (step (switch_of d a) x q) → answer ≡ answer_number r → (step (switch_of d a) x q).switch ≡ switch_of d a
       → Outcome answer w w a a out memory buffer list (step (switch_of (device_in w) a) x q)
   looked_at g e s =
       rw (← is)
@@ -155,12 +165,15 @@ linking s x port b c h = rw (le-ltb 1 b h)
 
 -- ---- Fresh
 
-pub fresh_stored : {answer ports id : ℕ} {w w' : List ℕ} {a a' : Storage} (r : Made) → device.Makes r ports id a a' → Stored answer r.answer r.device w w'
-    → FreshOutcome answer w w' a a' ports id
-fresh_stored {answer} {ports} r h s =
-    let e : answer ≡ fresh_refusal ports = s.answer_is ∙ h.answer_is in
-    record {
-      answer_is = e;
-      made = λ z. let t = eq-eqb (fresh_refusal ports) 0 (sym e ∙ z) in (s.done z ∙ h.device_is ∙ rw t, h.places_are ∙ rw t);
-      kept = λ n. (s.kept n, h.places_are ∙ rw (ne_eqb (fresh_refusal ports) 0 (λ z. n (e ∙ z))));
-    }
+module _ {ports id : ℕ} {w : List ℕ} {a a' : Storage} where
+  pub fresh_done : {w' : List ℕ} (d : Device) → device.Makes (Ok d) ports id a a' → device_in w' ≡ d → FreshOutcome 0 w w' a a' ports id
+  unfolding answer_number
+  fresh_done d h s =
+      let t = eq-eqb (fresh_refusal ports) 0 (sym h.answer_is) in
+      record { answer_is = h.answer_is; made = λ z. (s ∙ h.device_is ∙ rw t, h.places_are ∙ rw t); kept = λ n. absurd (n refl) }
+
+  pub fresh_refused : (e : Refusal) → device.Makes (Err e) ports id a a' → FreshOutcome (refusal_number e) w w a a' ports id
+  unfolding answer_number
+  fresh_refused e h =
+      let t = ne_eqb (fresh_refusal ports) 0 (λ z. refusal_positive e (h.answer_is ∙ z)) in
+      record { answer_is = h.answer_is; made = λ z. absurd (refusal_positive e z); kept = λ n. (refl, h.places_are ∙ rw t) }

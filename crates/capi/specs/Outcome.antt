@@ -1,17 +1,17 @@
 -- What the exported functions promise of the words and places that the host holds, and of all that is borrowed from it.
-use Rattle.std.specs.Prelude.{ℕ, ◌+◌, Bool, ◌≡◌, List, [], ◌∷◌, length, get_or}
+use Rattle.std.specs.Prelude.{ℕ, ◌+◌, Bool, ◌≡◌, List, [], ◌∷◌, length, get_or, Result as Either, IfOk, OnErr}
 use mir.Syntax.{w8, w16, w32, w64, ty_int, ty_array}
 use prog.Memory.{size}
-use Rattle.rules.specs.Answers.{number}
+use Rattle.rules.specs.Answers.{answer_number}
 use Rattle.rules.specs.Choose.{choose}
 use Rattle.rules.specs.Members.{elem}
 use Rattle.rules.specs.Tables.{fresh_arrays}
 use Rattle.rules.specs.Journal.{completion}
 use Rattle.rules.specs.Told.{Told}
 use Rattle.rules.specs.Switch.{Storage, Result, switch_of, fresh_refusal, fresh_device, fresh_storage}
-use Rattle.rules.specs.declared.Answer.{Answer}
+use Rattle.rules.specs.declared.Refusal.{Refusal}
 use Rattle.rules.specs.declared.Status.TheVariants.{Ok}
-use Rattle.rules.specs.declared.Device.{Device}
+use Rattle.device.specs.declared.Called.{Called}
 use Rattle.words.specs.Words.{device_in}
 
 unfoldable pub bit_of : Bool → ℕ
@@ -42,11 +42,11 @@ pub record Outcome (answer : ℕ) (w w' : List ℕ) (a a' : Storage) (out memory
   -- and so does every call of its tables and their order, unless it completed a command OK
   pub places_kept : (of.told.completed ≡ completion Ok → ⊥) → a' ≡ a
 
--- a device stored where its call was done; refused, no word changes
-pub record Stored (answer : ℕ) (given : Answer) (d : Device) (w w' : List ℕ) : Type 0 where
-  pub answer_is : answer ≡ number given
-  pub done : answer ≡ 0 → device_in w' ≡ d
-  pub kept : (answer ≡ 0 → ⊥) → w' ≡ w
+-- the device stored where its call was done; refused, no word changes
+pub record Stored (answer : ℕ) (r : Either Called Refusal) (w w' : List ℕ) : Type 0 where
+  pub answer_is : answer ≡ answer_number r
+  pub done : IfOk r (λ c. device_in w' ≡ c.device)
+  pub kept : OnErr r (w' ≡ w)
 
 -- of fresh: refused, it leaves what was there
 pub record FreshOutcome (answer : ℕ) (w w' : List ℕ) (a a' : Storage) (ports id : ℕ) : Type 0 where

@@ -1,28 +1,29 @@
 // The C interface. A host holds a device as five arrays of numbers: its small part as 20 words (the crate `words`), the places of its
 // tables, and the order of its flows. Each exported function takes pointers to those that its call needs; include/rocker.h puts them into
 // one struct.
-// No enum crosses the boundary: a request comes in as numbers, an answer goes out as its number of document 01. No bool is held either, so
+// No enum crosses the boundary: a request comes in as numbers, an answer goes out as its number. No bool is held either, so
 // the functions are right whatever bytes they are handed.
 
 #![tactic(auto)]
 
 ghost use Rattle.std.specs.Prelude.{◌≡◌, List, ℕ};
-ghost use Rattle.rules.specs.Answers.{number};
+ghost use Rattle.rules.specs.Answers.{answer_number};
 ghost use Rattle.rules.specs.Switch.{Storage, storage, Borrowed, switch_of, step};
 ghost use Rattle.rules.specs.declared.Request.TheVariants.{Read, Write, Process, Frame, Header};
-ghost use Rattle.device.specs.Outcome.{borrowed};
+ghost use Rattle.device.specs.Outcome.{borrowed, told_by};
 ghost use Rattle.words.specs.Words.{device_in};
 ghost use Rattle.capi.specs.Asking.{asked};
-ghost use Rattle.capi.specs.Outcome.{Outcome, Stored, FreshOutcome, six, bit_of, parts_size};
+ghost use Rattle.capi.specs.Outcome.{Outcome, Stored, FreshOutcome, six, bit_of, told_in, parts_size};
 
-use rules::{Answer, Device, FlowOrder, FlowRows, GroupHeads, GroupMembers};
+use device::Called;
+use rules::{FlowOrder, FlowRows, GroupHeads, GroupMembers, Refusal};
 
 // ---- Numbers in and out
 
-fn answer_of(a: Answer) -> u32
-    ensures { result ≡ number a }
+fn answer_of<T>(r: &Result<T, Refusal>) -> u32
+    ensures { result ≡ answer_number r.now }
 {
-    answers::number(a) as u32
+    answers::answer_number(r) as u32
 }
 
 fn bit_of(b: bool) -> u64
@@ -31,15 +32,31 @@ fn bit_of(b: bool) -> u64
     if b { 1 } else { 0 }
 }
 
-// The end of a call: the device goes back into the words if the call was done. A refused call leaves them, bits without meaning too.
-fn store(registers: &mut [u64; 20], answer: Answer, after: Device) -> u32
-    ensures { Stored result answer after registers.old registers.new }
+// What a call tells as six numbers: value, raised, completed, bytes, outputs, reset. A refused call has 0 in each.
+fn told(r: &Result<Called, Refusal>) -> [u64; 6]
+    ensures { result ≡ told_in (told_by r.now) }
 {
-    let n = answer_of(answer);
-    if n == 0 {
-        *registers = words::words_of(after);
+    match r {
+        Ok(called) => [
+            called.value,
+            bit_of(called.interrupt),
+            called.completed as u64,
+            called.written as u64,
+            called.outputs as u64,
+            bit_of(called.reset),
+        ],
+        Err(_) => [0, 0, 0, 0, 0, 0],
     }
-    n
+}
+
+// The end of a call: the device goes back into the words if the call was done. A refused call leaves them, bits without meaning too.
+fn store(registers: &mut [u64; 20], r: &Result<Called, Refusal>) -> u32
+    ensures { Stored result r.now registers.old registers.new }
+{
+    if let Ok(called) = r {
+        *registers = words::words_of(called.device);
+    }
+    answer_of(r)
 }
 
 // ---- Exported
@@ -65,9 +82,13 @@ pub extern "C" fn rocker_fresh_parts(
     ensures { FreshOutcome result registers.old registers.new (storage flows.old heads.old members.old order.old) (storage flows.new heads.new members.new order.new) ports switch_id }
 {
     let made = device::fresh(ports, switch_id, flows, heads, members, order);
-    let answer = made.answer;
-    let after = made.device;
-    store(registers, answer, after)
+    match made {
+        Ok(d) => {
+            *registers = words::words_of(d);
+            0
+        }
+        Err(refusal) => answers::refusal_number(refusal) as u32,
+    }
 }
 
 #[unsafe(no_mangle)]
@@ -80,9 +101,9 @@ pub extern "C" fn rocker_read_parts(
     ensures { (a : Storage) (b : Borrowed) → Outcome result registers.now registers.now a a (six value.new 0 0 0 0 0) b.memory b.buffer b.list (step (switch_of (device_in registers.now) a) b (Read offset width)) }
 {
     let r = device::read(words::device_of(*registers), offset, width);
-    *value = r.value;
-    let answer = r.answer;
-    answer_of(answer)
+    let [given, ..] = told(&r);
+    *value = given;
+    answer_of(&r)
 }
 
 #[unsafe(no_mangle)]
@@ -97,11 +118,10 @@ pub extern "C" fn rocker_write_parts(
     ensures { (a : Storage) (b : Borrowed) → Outcome result registers.old registers.new a a (six 0 raised.new 0 0 0 reset.new) b.memory b.buffer b.list (step (switch_of (device_in registers.old) a) b (Write offset width value)) }
 {
     let r = device::write(words::device_of(*registers), offset, width, value);
-    *raised = bit_of(r.interrupt);
-    *reset = bit_of(r.reset);
-    let answer = r.answer;
-    let after = r.device;
-    store(registers, answer, after)
+    let [_, vector, _, _, _, resets] = told(&r);
+    *raised = vector;
+    *reset = resets;
+    store(registers, &r)
 }
 
 // The owner sets a port's link: 0 is down, 1 is up.
@@ -113,9 +133,7 @@ pub extern "C" fn rocker_link_parts(registers: &mut [u64; 20], port: u64, up: u6
         return 2;
     }
     let r = device::link(words::device_of(*registers), port, up == 1);
-    let answer = r.answer;
-    let after = r.device;
-    store(registers, answer, after)
+    store(registers, &r)
 }
 
 // Process the slot at TAIL: the journal's record goes to the start of the buffer.
@@ -136,14 +154,11 @@ pub extern "C" fn rocker_process_parts(
 {
     let d = words::device_of(*registers);
     let r = device::process(d, memory, buffer, flows, heads, members, order);
-    let completion = r.completed as u64;
-    let written = r.written as u64;
-    *raised = bit_of(r.interrupt);
+    let [_, vector, completion, written, _, _] = told(&r);
+    *raised = vector;
     *completed = completion;
     *bytes = written;
-    let answer = r.answer;
-    let after = r.device;
-    store(registers, answer, after)
+    store(registers, &r)
 }
 
 // A frame in at a port: its outputs go to the start of the list.
@@ -163,9 +178,9 @@ pub extern "C" fn rocker_frame_parts(
 {
     let d = words::device_of(*registers);
     let r = device::frame(d, port, frame, list, flows, heads, members, order);
-    *outputs = r.outputs as u64;
-    let answer = r.answer;
-    answer_of(answer)
+    let [_, _, _, _, count, _] = told(&r);
+    *outputs = count;
+    answer_of(&r)
 }
 
 // The journal's header, to the start of the buffer.
@@ -178,9 +193,9 @@ pub extern "C" fn rocker_header_parts(
     ensures { (a : Storage) (memory frame list : List ℕ) → Outcome result registers.now registers.now a a (six 0 0 0 bytes.new 0 0) memory buffer.new list (step (switch_of (device_in registers.now) a) (borrowed memory frame buffer.old list) Header) }
 {
     let r = device::header(words::device_of(*registers), buffer);
-    *bytes = r.written as u64;
-    let answer = r.answer;
-    answer_of(answer)
+    let [_, _, _, written, _, _] = told(&r);
+    *bytes = written;
+    answer_of(&r)
 }
 
 // ---- Any call

@@ -12,15 +12,8 @@ ghost use Rattle.egress.specs.Outcome.{Outcome};
 ghost use Rattle.rules.specs.Limits.{list_numbers};
 
 use rules::{
-    Answer, Counts, Firsts, FlowOrder, FlowRows, GroupHeads, GroupMembers, LIST_NUMBERS, Registers,
+    Counts, Firsts, FlowOrder, FlowRows, GroupHeads, GroupMembers, LIST_NUMBERS, Refusal, Registers,
 };
-
-// What a frame call gives: the answer, and how many outputs (document 01: copies) stand at the start of the list.
-#[derive(Clone, Copy)]
-pub struct Framed {
-    pub answer: Answer,
-    pub outputs: usize,
-}
 
 // The outputs of a frame on a port that is up and enabled.
 fn outputs_from(
@@ -61,13 +54,8 @@ fn outputs_from(
     0
 }
 
-fn answered(answer: Answer, outputs: usize) -> Framed
-    ensures { result ≡ record { answer = answer; outputs = outputs } }
-{
-    Framed { answer, outputs }
-}
-
-// The frame call: a frame comes in on a port, and its outputs are written to the start of the list. A refused call writes nothing.
+/// The frame call: a frame comes in on a port, and its outputs (each of nine numbers) are written to the start of the list. Gives how many
+/// there are. A refused call writes nothing.
 pub fn frame(
     d: Registers,
     counts: Counts,
@@ -79,20 +67,20 @@ pub fn frame(
     port: u64,
     f: &[u8],
     list: &mut [u16],
-) -> Framed
+) -> Result<usize, Refusal>
     ensures { Outcome d (decides_first (live_flows counts.flows flows.now) (order_in counts.flows firsts order.now)) (live_groups counts.groups heads.now members.now) port f.now list.old result list.new }
 {
     if !ports::port_allowed(d, port) {
-        return answered(Answer::PortNotAllowed, 0);
+        return Err(Refusal::PortNotAllowed);
     }
     if !headers::is_frame(f) {
-        return answered(Answer::NotAFrame, 0);
+        return Err(Refusal::NotAFrame);
     }
     if list.len() < LIST_NUMBERS {
-        return answered(Answer::ListShort, 0);
+        return Err(Refusal::ListShort);
     }
     if !ports::is_up(d, port) {
-        return answered(Answer::Done, 0);
+        return Ok(0);
     }
     let n = outputs_from(
         d,
@@ -106,5 +94,5 @@ pub fn frame(
         f,
         list,
     );
-    answered(Answer::Done, n)
+    Ok(n)
 }

@@ -1,36 +1,27 @@
--- What the calls of this crate give, against the rules: one record a call, whose fields are the parts of the outcome.
-use Rattle.std.specs.Prelude.{◌≡◌, ℕ, false, ◌==◌}
-use Rattle.rules.specs.Choose.{choose}
-use Rattle.rules.specs.Answers.{number}
-use Rattle.rules.specs.Registers.{read_refusal, read, with_ring, raised}
+-- What the calls of this crate give, against the rules.
+use Rattle.std.specs.Prelude.{◌≡◌, ℕ, false, Result, MatchResult}
+use Rattle.rules.specs.Answers.{refusal_number}
+use Rattle.rules.specs.Registers.{raised}
 use Rattle.rules.specs.Registers as rule
-use Rattle.rules.specs.declared.Answer.TheVariants.{Done}
+use Rattle.rules.specs.declared.Refusal.{Refusal}
 use Rattle.rules.specs.declared.Registers.{Registers}
-use Rattle.registers.specs.declared.Reading.{Reading}
 use Rattle.registers.specs.declared.Written.{Written}
-use Rattle.registers.specs.declared.Changed.{Changed}
-use Rattle.ring.specs.declared.RingWritten.{RingWritten}
 
--- a read
-pub record Reads (r : Reading) (d : Registers) (offset width : ℕ) : Type 0 where
-  pub answer : number r.answer ≡ read_refusal offset width
-  pub value : r.value ≡ read d offset width
+-- done exactly where nothing refuses, and then with this value; else refused with this number. A read, fresh and link
+abbrev pub Comes : {A : Type 0} → Result A Refusal → ℕ → A → Type 0
+Comes r refusal value = MatchResult r (λ x. (refusal ≡ 0) × (x ≡ value)) (λ e. refusal_number e ≡ refusal)
 
--- a write, against the rules' outcome of it. The one vector that it may raise is 0
-pub record Gives (w : Written) (of : rule.Written) : Type 0 where
-  pub answer : number w.answer ≡ of.refusal
+-- a write that the rules do not refuse, and what they make of it. The one vector that it may raise is 0
+pub record Writes (w : Written) (of : rule.Written) : Type 0 where
+  pub unrefused : of.refusal ≡ 0
   pub registers : w.registers ≡ of.registers
   pub vectors : raised 0 w.interrupt ≡ of.vectors
   pub resets : w.resets ≡ of.resets
 
--- fresh and link: a refusal number, and the registers where it is 0 and where it is not
-pub record Changes (r : Changed) (refusal : ℕ) (after before : Registers) : Type 0 where
-  pub answer : number r.answer ≡ refusal
-  pub registers : r.registers ≡ choose (refusal == 0) after before
+-- a write: done as the rules have it, or refused with their number
+abbrev pub Gives : Result Written Refusal → rule.Written → Type 0
+Gives r of = MatchResult r (λ w. Writes w of) (λ e. refusal_number e ≡ of.refusal)
 
--- registers that take what was written, and those whose ring did
+-- registers that take what was written
 abbrev pub done : Registers → Written
-done d = record { answer = Done; registers = d; interrupt = false; resets = false }
-
-unfoldable pub ring_done : Registers → ℕ → RingWritten → Written
-ring_done d n w = record { answer = w.answer; registers = with_ring d n w.ring; interrupt = w.raises; resets = false }
+done d = record { registers = d; interrupt = false; resets = false }

@@ -23,11 +23,8 @@ fn numbers<const N: usize>(s: &[u8], expected: Fault) -> Result<[u64; N], Fault>
 fn run_fresh<W: Write>(out: &mut W, d: &mut Registers, s: &[u8]) -> Result<(), Fault> {
     let [ports, switch_id] = numbers::<2>(s, Fault::Line("expected fresh PORTS SWITCH_ID"))?;
     let r = registers::fresh(ports, switch_id);
-    let number = answers::number(r.answer);
-    told::answer(out, number)?;
-    if number == 0 {
-        *d = r.registers;
-    }
+    told::answer(out, answers::answer_number(&r))?;
+    *d = r.unwrap_or(*d);
     Ok(())
 }
 
@@ -38,8 +35,8 @@ fn run_link<W: Write>(out: &mut W, d: &mut Registers, s: &[u8]) -> Result<(), Fa
         return Err(Fault::Line("UP is 0 or 1"));
     }
     let r = registers::link(*d, port, up == 1);
-    told::answer(out, answers::number(r.answer))?;
-    *d = r.registers;
+    told::answer(out, answers::answer_number(&r))?;
+    *d = r.unwrap_or(*d);
     Ok(())
 }
 
@@ -47,7 +44,7 @@ fn run_link<W: Write>(out: &mut W, d: &mut Registers, s: &[u8]) -> Result<(), Fa
 fn run_read<W: Write>(out: &mut W, d: &Registers, s: &[u8]) -> Result<(), Fault> {
     let [width, offset] = numbers::<2>(s, Fault::Line("expected read WIDTH OFFSET"))?;
     let r = registers::read(*d, offset, width);
-    told::value(out, answers::number(r.answer), r.value)?;
+    told::value(out, answers::answer_number(&r), r.unwrap_or(0))?;
     Ok(())
 }
 
@@ -55,8 +52,11 @@ fn run_read<W: Write>(out: &mut W, d: &Registers, s: &[u8]) -> Result<(), Fault>
 fn run_write<W: Write>(out: &mut W, d: &mut Registers, s: &[u8]) -> Result<(), Fault> {
     let [width, offset, value] = numbers::<3>(s, Fault::Line("expected write WIDTH OFFSET VALUE"))?;
     let r = registers::write(*d, offset, width, value);
-    told::raised(out, answers::number(r.answer), r.interrupt)?;
-    *d = r.registers;
+    let interrupt = r.map_or(false, |written| written.interrupt);
+    told::raised(out, answers::answer_number(&r), interrupt)?;
+    if let Ok(written) = r {
+        *d = written.registers;
+    }
     Ok(())
 }
 
@@ -82,7 +82,7 @@ fn run_taken<W: Write>(out: &mut W, d: &mut Registers, taken: Option<&[u8]>) -> 
 // Runs the script to its end, or to a read or a write that fails: a line that a failed read broke off is run, and no read is told of. A
 // proved loop ends, and nothing says that the input does: no run comes to the end of its turns.
 fn run<E: Eprint, R: Read, W: Write>(rt: &E, from: &mut R, out: &mut W) -> io::Result<()> {
-    let mut d = registers::fresh(0, 0).registers;
+    let mut d = registers::none();
     let mut input = [0; 4096];
     let mut line = [0; 256];
     let mut reader = Reader::new(from, &mut input);

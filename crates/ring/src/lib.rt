@@ -4,43 +4,33 @@
 
 ghost use Rattle.std.specs.Prelude.{◌≡◌, false, ◌<◌, ◌%◌, ◌^◌, ltb};
 ghost use Rattle.rules.specs.Choose.{choose};
-ghost use Rattle.rules.specs.Ring.{zero_ring, distance, outstanding, advance, power_up_to, ctrl_effect, ring_wide, ring_value, ring_store, ring_latch, base_latched, ring_latched, next_slot, complete_effect, complete_raises};
-ghost use Rattle.ring.specs.Outcomes.{RingGives, refused_ring, accepted_ring};
+ghost use Rattle.rules.specs.Ring.{zero_ring, distance, outstanding, advance, power_up_to, ctrl_effect, ring_wide, ring_value, ring_store, ring_latch, ring_latched, next_slot, complete_effect, complete_raises};
+ghost use Rattle.ring.specs.Outcomes.{RingGives};
 ghost use Rattle.ring.specs.Shapes.{head_allowed};
 ghost use Rattle.rules.specs.Limits.{max_credits};
 
-use rules::{Answer, MAX_CREDITS, Ring, RingRegister};
+use rules::{MAX_CREDITS, Refusal, Ring, RingRegister};
 
-// What a write makes of a ring. `raises`: the ring's vector is raised.
-#[derive(Clone, Copy)]
+/// What a write makes of a ring. `raises`: the ring's vector is raised.
+#[derive(Clone, Copy, Debug, PartialEq, Eq)]
 pub struct RingWritten {
-    pub answer: Answer,
     pub ring: Ring,
     pub raises: bool,
 }
 
-fn refused(r: Ring) -> RingWritten
-    ensures { result ≡ refused_ring r }
+// A write that raises no vector.
+fn quiet(ring: Ring) -> RingWritten
+    ensures { result ≡ record { ring = ring; raises = false } }
 {
     RingWritten {
-        answer: Answer::ValueNotAllowed,
-        ring: r,
+        ring,
         raises: false,
-    }
-}
-
-fn accepted(r: Ring, raises: bool) -> RingWritten
-    ensures { result ≡ accepted_ring r raises }
-{
-    RingWritten {
-        answer: Answer::Done,
-        ring: r,
-        raises: raises,
     }
 }
 
 // ---- Registers, one by one
 
+#[tactic(auto, unfolding(rules::specs::Ring::zero_ring))]
 pub fn zero() -> Ring
     ensures { result ≡ zero_ring }
 {
@@ -54,26 +44,21 @@ pub fn zero() -> Ring
     }
 }
 
-fn latch_base(r: Ring, v: u32) -> Ring
-    ensures { result ≡ base_latched r v }
-{
-    let mut next = r;
-    next.base_latch = v;
-    next
-}
-
-fn write_base(r: Ring, v: u64) -> RingWritten
-    ensures { RingGives result (ring_store r RingRegister.BaseAddr v) r }
+#[tactic(auto, unfolding(rules::specs::Answers::refusal_number, rules::specs::Ring::ring_store, rules::specs::Ring::base_refusal, rules::specs::Ring::base_effect))]
+fn write_base(r: Ring, v: u64) -> Result<RingWritten, Refusal>
+    ensures { RingGives result (ring_store r RingRegister.BaseAddr v) }
 {
     if v % 8 != 0 {
-        return refused(r);
+        return Err(Refusal::ValueNotAllowed);
     }
-    let mut next = r;
-    next.base_addr = v;
-    next.base_latch = 0;
-    next.head = 0;
-    next.tail = 0;
-    accepted(next, false)
+    let ring = Ring {
+        base_addr: v,
+        base_latch: 0,
+        head: 0,
+        tail: 0,
+        ..r
+    };
+    Ok(quiet(ring))
 }
 
 // A power of two from 2 to 65,536: one bit of it is set, and it lies in that range.
@@ -83,17 +68,20 @@ fn is_size(v: u32) -> bool
     (2 <= v) & (v <= 65536) & (u32::count_ones(v) == 1)
 }
 
-fn write_size(r: Ring, v: u32) -> RingWritten
-    ensures { RingGives result (ring_store r RingRegister.Size v) r }
+#[tactic(auto, unfolding(rules::specs::Answers::refusal_number, rules::specs::Ring::ring_store, rules::specs::Ring::size_refusal, rules::specs::Ring::size_effect))]
+fn write_size(r: Ring, v: u32) -> Result<RingWritten, Refusal>
+    ensures { RingGives result (ring_store r RingRegister.Size v) }
 {
     if !is_size(v) {
-        return refused(r);
+        return Err(Refusal::ValueNotAllowed);
     }
-    let mut next = r;
-    next.size = v;
-    next.head = 0;
-    next.tail = 0;
-    accepted(next, false)
+    let ring = Ring {
+        size: v,
+        head: 0,
+        tail: 0,
+        ..r
+    };
+    Ok(quiet(ring))
 }
 
 // A number modulo the size. Only one that is not below the size, which no call leaves in HEAD or TAIL, costs a division.
@@ -139,53 +127,51 @@ fn head_allowed(r: Ring, new: u32) -> bool
     false
 }
 
-fn write_head(r: Ring, new: u32) -> RingWritten
-    ensures { RingGives result (ring_store r RingRegister.Head new) r }
+#[tactic(auto, unfolding(rules::specs::Answers::refusal_number, rules::specs::Ring::ring_store, rules::specs::Ring::head_refusal, crate::specs::Shapes::head_allowed, rules::specs::Ring::head_effect))]
+fn write_head(r: Ring, new: u32) -> Result<RingWritten, Refusal>
+    ensures { RingGives result (ring_store r RingRegister.Head new) }
 {
     if !head_allowed(r, new) {
-        return refused(r);
+        return Err(Refusal::ValueNotAllowed);
     }
-    let mut next = r;
-    next.head = new;
-    accepted(next, false)
+    Ok(quiet(Ring { head: new, ..r }))
 }
 
-fn write_credits(r: Ring, n: u32) -> RingWritten
-    ensures { RingGives result (ring_store r RingRegister.Credits n) r }
+#[tactic(auto, unfolding(rules::specs::Answers::refusal_number, rules::specs::Ring::ring_store, rules::specs::Ring::credits_refusal, rules::specs::Ring::credits_effect, rules::specs::Ring::credits_raises))]
+fn write_credits(r: Ring, n: u32) -> Result<RingWritten, Refusal>
+    ensures { RingGives result (ring_store r RingRegister.Credits n) }
 {
     if r.credits < n {
-        return refused(r);
+        return Err(Refusal::ValueNotAllowed);
     }
-    let mut next = r;
-    next.credits = r.credits - n;
-    accepted(next, n < r.credits)
+    let ring = Ring {
+        credits: r.credits - n,
+        ..r
+    };
+    Ok(RingWritten {
+        ring,
+        raises: n < r.credits,
+    })
 }
 
+#[tactic(auto, unfolding(rules::specs::Ring::ctrl_effect))]
 fn write_ctrl(r: Ring, v: u64) -> Ring
     ensures { result ≡ ctrl_effect r v }
 {
-    if v % 2 == 1 {
-        return zero();
-    }
-    r
+    if v % 2 == 1 { zero() } else { r }
 }
 
 // ---- By register
 
 // Whether it has 8 bytes.
+#[tactic(auto, unfolding(rules::specs::Ring::ring_wide))]
 pub fn is_wide(which: RingRegister) -> bool
     ensures { result ≡ ring_wide which }
 {
-    match which {
-        RingRegister::BaseAddr => true,
-        RingRegister::Size => false,
-        RingRegister::Head => false,
-        RingRegister::Tail => false,
-        RingRegister::Ctrl => false,
-        RingRegister::Credits => false,
-    }
+    matches!(which, RingRegister::BaseAddr)
 }
 
+#[tactic(auto, unfolding(rules::specs::Ring::ring_value))]
 pub fn value(r: Ring, which: RingRegister) -> u64
     ensures { result ≡ ring_value r which }
 {
@@ -199,44 +185,39 @@ pub fn value(r: Ring, which: RingRegister) -> u64
     }
 }
 
-// A write of a whole register. One of 4 bytes takes a number of 32 bits.
-pub fn store(r: Ring, which: RingRegister, v: u64) -> RingWritten
+/// A write of a whole register. One of 4 bytes takes a number of 32 bits. Refused, the ring stays as the caller has it.
+#[tactic(auto, unfolding(rules::specs::Ring::ring_store, rules::specs::Ring::ring_wide))]
+pub fn store(r: Ring, which: RingRegister, v: u64) -> Result<RingWritten, Refusal>
     requires { ring_wide which ≡ false → v < 2 ^ 32 }
-    ensures { RingGives result (ring_store r which v) r }
+    ensures { RingGives result (ring_store r which v) }
 {
     match which {
         RingRegister::BaseAddr => write_base(r, v),
         RingRegister::Size => write_size(r, v as u32),
         RingRegister::Head => write_head(r, v as u32),
-        RingRegister::Tail => accepted(r, false),
-        RingRegister::Ctrl => accepted(write_ctrl(r, v), false),
+        RingRegister::Tail => Ok(quiet(r)),
+        RingRegister::Ctrl => Ok(quiet(write_ctrl(r, v))),
         RingRegister::Credits => write_credits(r, v as u32),
     }
 }
 
+#[tactic(auto, unfolding(rules::specs::Ring::ring_latch))]
 pub fn latch_of(r: Ring, which: RingRegister) -> u32
     ensures { result ≡ ring_latch r which }
 {
     match which {
         RingRegister::BaseAddr => r.base_latch,
-        RingRegister::Size => 0,
-        RingRegister::Head => 0,
-        RingRegister::Tail => 0,
-        RingRegister::Ctrl => 0,
-        RingRegister::Credits => 0,
+        _ => 0,
     }
 }
 
+#[tactic(auto, unfolding(rules::specs::Ring::ring_latched, rules::specs::Ring::base_latched))]
 pub fn latch(r: Ring, which: RingRegister, v: u32) -> Ring
     ensures { result ≡ ring_latched r which v }
 {
     match which {
-        RingRegister::BaseAddr => latch_base(r, v),
-        RingRegister::Size => r,
-        RingRegister::Head => r,
-        RingRegister::Tail => r,
-        RingRegister::Ctrl => r,
-        RingRegister::Credits => r,
+        RingRegister::BaseAddr => Ring { base_latch: v, ..r },
+        _ => r,
     }
 }
 
@@ -259,10 +240,11 @@ pub fn complete(r: Ring) -> Ring
     if MAX_CREDITS <= r.credits {
         return r;
     }
-    let mut next = r;
-    next.tail = next_slot(r.size, r.tail);
-    next.credits = r.credits + 1;
-    next
+    Ring {
+        tail: next_slot(r.size, r.tail),
+        credits: r.credits + 1,
+        ..r
+    }
 }
 
 // Whether completing a slot raises the ring's vector.

@@ -19,7 +19,7 @@ use Rattle.rules.specs.Engine.{no_order}
 use Rattle.rules.specs.Switch.{Switch, Storage, order_in, switch_of, fresh_refusal, fresh_switch, fresh_device}
 use Rattle.rules.specs.declared.Device.{Device}
 use Rattle.rules.proofs.Cases.{by_eq, and_left, and_right}
-use Rattle.device.specs.Outcome.{borrowed}
+use Rattle.device.specs.Outcome.{borrowed, device_after, device_made}
 use Rattle.device.proofs.Outcome.{completed_told, written_told, reset_told}
 use Rattle.replaying.specs.Reading.{progress_of}
 use Rattle.replaying.specs.Replaying.{result_of, Gives}
@@ -69,8 +69,8 @@ chain_is : (d : Device) (a : Storage) (cs : List CodeCall) → Chain d a cs
 unfolding last_device last_arrays seen_of final trace
 chain_is d a [] h = (refl, refl)
 chain_is d a (c ∷ cs) h =
-    let r = chain_is c.gives.device c.arrays_after cs h.1 in
-    let next : switch_of c.gives.device c.arrays_after ≡ (step_at (switch_of d a) (call_of c)).switch = unfold step_at in h.0.switch_is in
+    let r = chain_is (device_after d c.gives) c.arrays_after cs h.1 in
+    let next : switch_of (device_after d c.gives) c.arrays_after ≡ (step_at (switch_of d a) (call_of c)).switch = unfold step_at in h.0.switch_is in
     let r' = rw next at r in
     (r'.0, rw (seen_is d a c h.0, r'.1))
 
@@ -102,7 +102,7 @@ unfolding final_of trace_of
 demand3_of_code ports id r =
     let z : fresh_refusal ports ≡ 0 = sym r.fresh.answer_is ∙ r.answered in
     let p = ports_allowed ports z in
-    let base : switch_of r.made.device r.arrays ≡ fresh_switch ports id = rw (r.fresh.device_is, eq-eqb (fresh_refusal ports) 0 z) (fresh_switch_lem ports id r.arrays) in
-    let c = rw base at (chain_is r.made.device r.arrays r.calls r.chain) in
+    let base : switch_of (device_made r.made) r.arrays ≡ fresh_switch ports id = rw (r.fresh.device_is, eq-eqb (fresh_refusal ports) 0 z) (fresh_switch_lem ports id r.arrays) in
+    let c = rw base at (chain_is (device_made r.made) r.arrays r.calls r.chain) in
     let claim : Claim ports (final_of r) (trace_of r) = rw (c.0, c.1) (demand3 ports id p.0 p.1 (calls_of r.calls)) in
     record { claim = claim; replayed = replayed_as ports (final_of r) (trace_of r) claim }

@@ -10,9 +10,9 @@ ghost use Rattle.replaying.specs.Replaying.{Gives};
 ghost use Rattle.tables.specs.Arrays.{arrays_of};
 ghost use Rattle.runs.specs.Runs.{Ensured};
 
-use device::{Called, Made};
+use device::Called;
 use replaying::replay::Replayed;
-use rules::{Device, FlowOrder, FlowRows, GroupHeads, GroupMembers, Request};
+use rules::{Device, FlowOrder, FlowRows, GroupHeads, GroupMembers, Refusal, Request};
 use tables::Places;
 
 // The start of a run: `Run` of specs/Runs.antt has it.
@@ -23,7 +23,7 @@ fn fresh(
     heads: &mut GroupHeads,
     members: &mut GroupMembers,
     order: &mut FlowOrder,
-) -> Made
+) -> Result<Device, Refusal>
     ensures { Makes result ports switch_id (storage flows.old heads.old members.old order.old) (storage flows.new heads.new members.new order.new) }
 {
     device::fresh(ports, switch_id, flows, heads, members, order)
@@ -41,7 +41,7 @@ fn call(
     heads: &mut GroupHeads,
     members: &mut GroupMembers,
     order: &mut FlowOrder,
-) -> Called
+) -> Result<Called, Refusal>
     ensures { Ensured d (storage flows.old heads.old members.old order.old) (record { request = request; memory = memory.old; frame = f.now; buffer = buffer.old; list = list.old; gives = result; arrays_after = storage flows.new heads.new members.new order.new; memory_after = memory.new; buffer_after = buffer.new; list_after = list.new }) }
 {
     device::call(

@@ -5,13 +5,15 @@ use Prim.Native.Nat.{ℕ, ◌+◌, ◌≤◌, ◌<◌}
 use mathlib.Core.Bool.{Bool, true, false, not}
 use mathlib.Core.Path.{◌≡◌, refl, sym, ap, ◌∙◌}
 use mathlib.Core.List.{List}
+use Rattle.std.specs.Prelude.{Result, Ok, Err, IfOk}
+use Rattle.answers.proofs.Refusals.{refusal_positive}
 use native.Mathlib.Omega.{arith}
 use lib.ListN.{length}
 use lib.Dec.{eqb, ltb, leb}
 use borrow.Author.Tests.{ne_eqb, lt-ltb, le-ltb, leb-false, not-false}
 use Rattle.rules.specs.Choose.{refuse}
 use Rattle.rules.specs.Limits.{max_credits}
-use Rattle.rules.specs.Answers.{number, code}
+use Rattle.rules.specs.Answers.{refusal_number, answer_number}
 use Rattle.rules.specs.Bytes.{inside, part}
 use Rattle.rules.specs.Registers.{command_ring, terms_of}
 use Rattle.rules.specs.Descriptor.{descriptor_at, descriptor, slot_refusal}
@@ -20,17 +22,16 @@ use Rattle.rules.specs.Engine.{Order}
 use Rattle.rules.specs.Journal.{record_of}
 use Rattle.rules.specs.Switch.{Switch, Borrowed, carry, carry_by, carried_slot, carried_slot_by, slot_record, slot_record_by, buffer_refusal, process_refusal, process_refusal_by}
 use Rattle.rules.specs.declared.Terms.{Terms}
-use Rattle.rules.specs.declared.Answer.{Answer}
-use Rattle.rules.specs.declared.Answer.TheVariants.{Done, BufferShort}
+use Rattle.rules.specs.declared.Refusal.{Refusal}
+use Rattle.rules.specs.declared.Refusal.TheVariants.{BufferShort}
+use Rattle.rules.specs.declared.Status.{Status}
 use Rattle.rules.specs.declared.Ring.{Ring}
 use Rattle.rules.specs.declared.Descriptor.{Descriptor}
-use Rattle.rules.proofs.Cases.{by_test, not_both}
 use Rattle.rules.proofs.Journal.{length_record}
 use Rattle.journal.proofs.Writing.{length_part}
-use Rattle.slot.specs.Fetching.{payload_of, handed, Fetches}
+use Rattle.slot.specs.Fetching.{payload_of, size_of, handed, Fetches}
 use Rattle.slot.specs.Taking.{Takes}
-use Rattle.slot.specs.declared.Slot.{Slot}
-use Rattle.slot.specs.declared.Taken.{Taken}
+use Rattle.slot.specs.declared.Span.{Span}
 use Rattle.slot.proofs.Fetching.{is_inside}
 
 -- ---- A ring's refusals, for any conditions after them
@@ -70,11 +71,10 @@ module _ (ring : Ring) (memory : List ℕ) where
   unfolding slot_refusal
   no_slot n rest = one_refuses empty full outside rest n
 
-  -- m is the number of the ring's answer, n the one that code made of it
-  pub slot_there : {m n : ℕ} → m ≡ slot_refusal ring memory 0 → n ≡ m → n ≡ 0 → There ring memory
+  pub slot_there : slot_refusal ring memory 0 ≡ 0 → There ring memory
   unfolding slot_refusal
-  slot_there q k z =
-      let p = none_refuses empty full outside (sym q ∙ (sym k ∙ z)) in
+  slot_there z =
+      let p = none_refuses empty full outside z in
       record {
         uncredited = leb-false max_credits ring.credits p.1;
         within = is_inside ring memory (not-false _ p.2);
@@ -84,76 +84,64 @@ module _ (ring : Ring) (memory : List ℕ) where
 -- ---- A slot that was fetched, as the rules carry it out
 
 -- what is recorded is the part of memory that the slot names: of a fault, nothing
-payload_is : (terms : Terms) (t : Tables) (o : Order) (memory : List ℕ) (d : Descriptor) (x : Slot) → Fetches x memory d
+payload_is : (terms : Terms) (t : Tables) (o : Order) (memory : List ℕ) (x : Result Span Status)
     → (carry terms t o (handed x memory)).payload ≡ payload_of x memory
-unfolding handed carry_by part
-payload_is terms t o memory d x f =
-    by_test (eqb (code x.status) 0) (λ p. rw p) (λ p. let z : x.size ≡ 0 = f.empty p in rw (p, z))
+unfolding carry_by
+payload_is terms t o memory (Ok p) = refl
+payload_is terms t o memory (Err e) = refl
 
-module _ (s : Switch) (memory : List ℕ) (x : Slot) (f : Fetches x memory (descriptor memory (descriptor_at (command_ring s.registers)))) where
+pub length_payload : (x : Result Span Status) (memory : List ℕ) → IfOk x (λ p. p.start + p.size ≤ length memory)
+    → length (payload_of x memory) ≡ size_of x
+length_payload (Ok p) memory h = length_part p.size memory p.start h
+length_payload (Err e) memory h = refl
+
+module _ (s : Switch) (memory : List ℕ) (x : Result Span Status) (f : Fetches x memory (descriptor memory (descriptor_at (command_ring s.registers)))) where
   pub carried_is : carried_slot s memory ≡ carry (terms_of s.registers) s.tables s.order (handed x memory)
   unfolding carried_slot_by
   carried_is = rw f.fetched
 
   pub record_is : slot_record s memory ≡ record_of (carried_slot s memory).status (payload_of x memory) (command_ring s.registers).tail
   unfolding slot_record_by
-  record_is = rw (carried_is, payload_is (terms_of s.registers) s.tables s.order memory _ x f)
+  record_is = rw (carried_is, payload_is (terms_of s.registers) s.tables s.order memory x)
 
-  pub record_length : length (slot_record s memory) ≡ 6 + x.size
-  record_length = rw (record_is, length_record, length_part x.size memory x.start f.fits)
+  pub record_length : length (slot_record s memory) ≡ 6 + size_of x
+  record_length = rw (record_is, length_record, length_payload x memory f.fits)
 
 -- ---- The answers
 
 -- the descriptor that was read is the one at TAIL
-pub fetched_at : (ring : Ring) {memory : List ℕ} {at : ℕ} {d : Descriptor} {x : Slot} → at ≡ descriptor_at ring → d ≡ descriptor memory at
-    → Fetches x memory d → Fetches x memory (descriptor memory (descriptor_at ring))
+pub fetched_at : (ring : Ring) {memory : List ℕ} {at : ℕ} {d : Descriptor} {x : Result Span Status} → at ≡ descriptor_at ring
+    → d ≡ descriptor memory at → Fetches x memory d → Fetches x memory (descriptor memory (descriptor_at ring))
 fetched_at ring e q f = rw (q, e) at f
 
 module _ (ring : Ring) (memory : List ℕ) (bytes : ℕ) where
-  refusing : {r : Taken} (a : Answer) → (number a ≡ 0 → ⊥) → (r.ready ≡ false) × (r.answer ≡ a)
-      → ((s : Switch) (b : Borrowed) → command_ring s.registers ≡ ring → b.memory ≡ memory → length b.buffer ≡ bytes → number a ≡ process_refusal s b)
-      → Takes r ring memory bytes
-  refusing a n is o =
+  -- there is no slot
+  pub take_none : (e : Refusal) → refusal_number e ≡ slot_refusal ring memory 0 → Takes (Err e) ring memory bytes
+  unfolding answer_number process_refusal_by
+  take_none e q =
       record {
-        answer_is = λ s b e m l. rw is.1 (o s b e m l);
-        ready_is = is.0 ∙ rw is.1 (sym (ne_eqb (number a) 0 n));
-        taken = λ t. not_both (sym t ∙ is.0);
+        answer_is = λ s b r m l. rw (r, m) (q ∙ sym (no_slot ring memory (λ z. refusal_positive e (q ∙ z)) _));
+        taken = tt;
       }
 
-  -- there is no slot
-  pub take_none : {r : Taken} (a : Answer) → number a ≡ slot_refusal ring memory 0 → (number a ≡ 0 → ⊥) → (r.ready ≡ false) × (r.answer ≡ a)
-      → Takes r ring memory bytes
-  take_none a q n is =
-      refusing a n is
-      (λ s b e m l. unfold process_refusal_by in rw (e, m) (q ∙ sym (no_slot ring memory (λ z. n (q ∙ z)) _)))
-
-  module _ (there : There ring memory) (x : Slot) (f : Fetches x memory (descriptor memory (descriptor_at ring))) where
+  module _ (there : There ring memory) (x : Result Span Status) (f : Fetches x memory (descriptor memory (descriptor_at ring))) where
     -- what is left to ask is whether the record fits
     fitting : (s : Switch) (b : Borrowed) → command_ring s.registers ≡ ring → b.memory ≡ memory → length b.buffer ≡ bytes
-        → process_refusal s b ≡ refuse (ltb bytes (6 + x.size)) 6 0
+        → process_refusal s b ≡ refuse (ltb bytes (6 + size_of x)) 6 0
     unfolding process_refusal_by buffer_refusal
     fitting s b e m l =
-        let n : length (slot_record s memory) ≡ 6 + x.size = record_length s memory x (rw e f) in
+        let n : length (slot_record s memory) ≡ 6 + size_of x = record_length s memory x (rw e f) in
         rw (m, n, l, e) (there.asked _)
 
-    pub take_short : {r : Taken} → (r.ready ≡ false) × (r.answer ≡ BufferShort) → bytes < 6 + x.size → Takes r ring memory bytes
-    unfolding number
-    take_short is h = refusing BufferShort (omega arith) is (λ s b e m l. sym (fitting s b e m l ∙ rw (lt-ltb _ _ h)))
+    pub take_short : bytes < 6 + size_of x → Takes (Err BufferShort) ring memory bytes
+    unfolding answer_number refusal_number
+    take_short h =
+        record { answer_is = λ s b e m l. sym (fitting s b e m l ∙ rw (lt-ltb _ _ h)); taken = tt }
 
-    pub take_done : {r : Taken} → (r.ready ≡ true) × (r.answer ≡ Done) × (r.slot ≡ x) × (r.at ≡ descriptor_at ring)
-        → 6 + x.size ≤ bytes → Takes r ring memory bytes
-    unfolding number
-    take_done is h =
+    pub take_done : (at : ℕ) → at ≡ descriptor_at ring → 6 + size_of x ≤ bytes → Takes (Ok (record { at = at; payload = x })) ring memory bytes
+    unfolding answer_number
+    take_done at e h =
         record {
-          answer_is = λ s b e m l. rw is.1 (sym (fitting s b e m l ∙ rw (le-ltb _ _ h)));
-          ready_is = rw (is.0, is.1);
-          taken = λ t.
-              rw (is.2, is.3)
-              (record { uncredited = there.uncredited; stands = refl; within = there.within; fetches = f; fits = h });
+          answer_is = λ s b r m l. sym (fitting s b r m l ∙ rw (le-ltb _ _ h));
+          taken = record { uncredited = there.uncredited; stands = e; within = rw e there.within; fetches = rw e f; fits = h };
         }
-
--- ---- For callers: a slot is ready exactly where the rules refuse nothing
-
-pub ready_when : {r : Taken} {ring : Ring} {memory : List ℕ} {bytes : ℕ} → Takes r ring memory bytes → (s : Switch) (b : Borrowed)
-    → command_ring s.registers ≡ ring → b.memory ≡ memory → length b.buffer ≡ bytes → r.ready ≡ eqb (process_refusal s b) 0
-ready_when h s b e m l = h.ready_is ∙ ap (λ (n : ℕ). eqb n 0) (h.answer_is s b e m l)

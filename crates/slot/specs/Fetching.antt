@@ -1,25 +1,28 @@
 -- What a descriptor hands over.
-use Rattle.std.specs.Prelude.{ℕ, ◌+◌, ◌≤◌, false, ◌≡◌, List, length, eqb}
-use Rattle.rules.specs.Choose.{choose}
+use Rattle.std.specs.Prelude.{ℕ, ◌+◌, ◌≤◌, ◌≡◌, List, [], length, Result, Ok, Err, IfOk}
 use Rattle.rules.specs.Limits.{max_payload}
-use Rattle.rules.specs.Answers.{code}
 use Rattle.rules.specs.Bytes.{part}
 use Rattle.rules.specs.Descriptor.{Fetched, fetch}
 use Rattle.rules.specs.Descriptor.Fetched.{Faulty, Payload}
+use Rattle.rules.specs.declared.Status.{Status}
 use Rattle.rules.specs.declared.Descriptor.{Descriptor}
-use Rattle.slot.specs.declared.Slot.{Slot}
+use Rattle.slot.specs.declared.Span.{Span}
 
--- the bytes that a slot names
-abbrev pub payload_of : Slot → List ℕ → List ℕ
-payload_of s memory = part s.size memory s.start
+-- the bytes that it names, and how many: a fault hands over none
+abbrev pub payload_of : Result Span Status → List ℕ → List ℕ
+payload_of (Ok p) memory = part p.size memory p.start
+payload_of (Err e) memory = []
 
--- OK is a payload, any other status a fault
-unfoldable pub handed : Slot → List ℕ → Fetched
-handed s memory = choose (eqb (code s.status) 0) (Payload (payload_of s memory)) (Faulty s.status)
+abbrev pub size_of : Result Span Status → ℕ
+size_of (Ok p) = p.size
+size_of (Err e) = 0
 
-pub record Fetches (r : Slot) (memory : List ℕ) (d : Descriptor) : Type 0 where
+-- as the rules have it
+abbrev pub handed : Result Span Status → List ℕ → Fetched
+handed (Ok p) memory = Payload (part p.size memory p.start)
+handed (Err e) memory = Faulty e
+
+pub record Fetches (r : Result Span Status) (memory : List ℕ) (d : Descriptor) : Type 0 where
   pub fetched : fetch memory d ≡ handed r memory
-  pub fits : r.start + r.size ≤ length memory
-  pub short : r.size ≤ max_payload
-  -- a fault hands over no bytes
-  pub empty : (eqb (code r.status) 0 ≡ false) → r.size ≡ 0
+  pub fits : IfOk r (λ p. p.start + p.size ≤ length memory)
+  pub short : size_of r ≤ max_payload

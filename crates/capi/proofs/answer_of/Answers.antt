@@ -1,6 +1,6 @@
 use native.Mathlib.Omega.{arith}
-use Rattle.capi.proofs.Numbers.{answer_small}
+use Rattle.answers.proofs.Refusals.{answer_small}
 use Rattle.capi.proofs.answer_of.Goals as goal
 
 pub overflow_cast-result : goal.overflow_cast-result
-overflow_cast-result c = rw c.number.ensures (omega (arith, answer_small c.args.a))
+overflow_cast-result g c = rw c.answer_number.ensures (omega (arith, answer_small c.args.r.now))

@@ -1,19 +1,16 @@
 -- `device::fresh` meets its contract.
 -- Assumes nothing.
-use mathlib.Core.Path.{refl, sym, ◌∙◌}
-use Rattle.rules.specs.Tables.{none_live}
-use Rattle.device.proofs.Outcome.{cleared, made}
+use Rattle.std.proofs.Common.{◌≡◌, arith}
+use Rattle.std.specs.Prelude.{Err}
+use Rattle.device.proofs.Outcome.{cleared, made, not_made}
 use Rattle.device.proofs.fresh.Goals as goal
 
-pub returns-then-number-eq0 : goal.returns-then-number-eq0
-unfolding none_live
-returns-then-number-eq0 c =
-    let f = c.fresh-made in
-    made _ _ _ f.result _ _ f.ensures (rw c.no_firsts-firsts.ensures) (λ z. cleared c.clear.ensures)
-    (λ z. absurd (z (sym c.number.ensures ∙ c.if-number-eq0.true)))
+pub returns-in_err-registers : goal.returns-in_err-registers
+returns-in_err-registers c =
+    let passed : c.from_residual.result ≡ Err c.in_err-registers.field-0.0 = grind arith in
+    rw passed (not_made _ _ _ _ c.in_err-registers.ensures)
 
-pub returns-else-number-eq0 : goal.returns-else-number-eq0
-unfolding none_live
-returns-else-number-eq0 c =
-    let f = c.fresh-made in
-    made _ _ _ f.result _ _ f.ensures (rw c.no_firsts-firsts.ensures) (λ z. absurd (c.if-number-eq0.false (c.number.ensures ∙ z))) (λ z. refl)
+pub returns : goal.returns
+returns c =
+    let made_of = c.in_ok-registers.ensures in
+    rw c.empty.ensures (made _ _ _ _ _ made_of.0 made_of.1 (cleared c.clear.ensures))

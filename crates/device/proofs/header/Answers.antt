@@ -1,11 +1,10 @@
-use Rattle.device.proofs.Outcome.{with_written, header_short, header_done}
+use Rattle.device.proofs.Outcome.{header_short, header_done}
 use Rattle.device.proofs.header.Goals as goal
 
 pub returns-then-buffer-lt6 : goal.returns-then-buffer-lt6
-returns-then-buffer-lt6 c = λ a memory frame list. rw c.answered.ensures (header_short _ a memory frame _ list c.if-buffer-lt6.true)
+returns-then-buffer-lt6 c = λ a memory frame list. header_short _ a memory frame _ list c.if-buffer-lt6.true
 
 pub returns : goal.returns
-unfolding with_written
 returns c =
-    let w = rw c.terms_of.ensures at c.header-n.ensures in
-    λ a memory frame list. rw c.answered-r.ensures (header_done _ a memory frame _ list _ _ c.if-buffer-lt6.false w)
+    let w = rw c.terms_of.ensures at c.header-written.ensures in
+    λ a memory frame list. rw c.quiet.ensures (header_done _ a memory frame _ list _ _ c.if-buffer-lt6.false w)

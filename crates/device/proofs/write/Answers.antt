@@ -1,10 +1,14 @@
 -- `device::write` meets its contract.
 -- Assumes nothing.
-use Rattle.device.proofs.Outcome.{with_interrupt, write_outcome}
+use Rattle.std.proofs.Common.{◌≡◌, arith}
+use Rattle.std.specs.Prelude.{Err}
+use Rattle.device.proofs.Outcome.{write_done, write_refused}
 use Rattle.device.proofs.write.Goals as goal
 
+pub returns-in_err-w : goal.returns-in_err-w
+returns-in_err-w c =
+    let passed : c.from_residual.result ≡ Err c.in_err-w.field-0.0 = grind arith in
+    λ a b. rw passed (write_refused _ a b _ _ _ _ c.in_err-w.ensures)
+
 pub returns : goal.returns
-unfolding with_interrupt
-returns c =
-    λ a b. rw c.answered-r.ensures
-    (write_outcome _ a b _ _ _ c.write-w.result c.write-w.ensures _ _ c.counts_after.ensures c.firsts_after.ensures)
+returns c = λ a b. rw (c.quiet.ensures, c.written_to.ensures) (write_done _ a b _ _ _ _ c.in_ok-w.ensures)

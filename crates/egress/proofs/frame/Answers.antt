@@ -8,26 +8,25 @@ use Rattle.egress.proofs.frame.Goals as goal
 
 pub returns-then-not-port_allowed : goal.returns-then-not-port_allowed
 returns-then-not-port_allowed c =
-    rw c.answered.ensures (port_refused _ _ _ _ _ _ (sym c.port_allowed.ensures ∙ c.if-not-port_allowed.true))
+    port_refused _ _ _ _ _ _ (sym c.port_allowed.ensures ∙ c.if-not-port_allowed.true)
 
 pub returns-then-not-is_frame : goal.returns-then-not-is_frame
 returns-then-not-is_frame c =
     let allowed = sym c.port_allowed.ensures ∙ c.if-not-port_allowed.false in
-    rw c.answered-then-not-is_frame.ensures
-    (frame_refused _ _ _ _ _ _ allowed (sym c.is_frame.ensures ∙ c.if-not-is_frame.true))
+    frame_refused _ _ _ _ _ _ allowed (sym c.is_frame.ensures ∙ c.if-not-is_frame.true)
 
 pub returns-then-list-lt-LIST_NUMBERS : goal.returns-then-list-lt-LIST_NUMBERS
 returns-then-list-lt-LIST_NUMBERS c =
     let allowed = sym c.port_allowed.ensures ∙ c.if-not-port_allowed.false in
     let right = sym c.is_frame.ensures ∙ c.if-not-is_frame.false in
-    rw c.answered-then-list-lt-LIST_NUMBERS.ensures (list_refused _ _ _ _ _ _ allowed right c.if-list-lt-LIST_NUMBERS.true)
+    list_refused _ _ _ _ _ _ allowed right c.if-list-lt-LIST_NUMBERS.true
 
 pub returns-then-not-is_up : goal.returns-then-not-is_up
 returns-then-not-is_up c =
     let allowed = sym c.port_allowed.ensures ∙ c.if-not-port_allowed.false in
     let right = sym c.is_frame.ensures ∙ c.if-not-is_frame.false in
     let down = sym c.is_up.ensures ∙ c.if-not-is_up.true in
-    rw c.answered-then-not-is_up.ensures (port_down _ _ _ _ _ _ allowed right c.if-list-lt-LIST_NUMBERS.false down)
+    port_down _ _ _ _ _ _ allowed right c.if-list-lt-LIST_NUMBERS.false down
 
 pub overflow_cast-port : goal.overflow_cast-port
 overflow_cast-port c =
@@ -40,4 +39,4 @@ returns c =
     let allowed = sym c.port_allowed.ensures ∙ c.if-not-port_allowed.false in
     let right = sym c.is_frame.ensures ∙ c.if-not-is_frame.false in
     let up = sym c.is_up.ensures ∙ c.if-not-is_up.false in
-    rw c.answered-2.ensures (port_up _ _ _ _ _ _ allowed right c.if-list-lt-LIST_NUMBERS.false up c.outputs_from-n.ensures)
+    port_up _ _ _ _ _ _ allowed right c.if-list-lt-LIST_NUMBERS.false up c.outputs_from-n.ensures

@@ -1,4 +1,5 @@
 use Rattle.registers.proofs.Fits.{taken_fits}
+use Rattle.registers.proofs.Outcomes.{gives_unless}
 use Rattle.rules.specs.Registers.{write}
 use Rattle.registers.proofs.write.Goals as goal
 
@@ -7,4 +8,4 @@ write_to-requires c = rw (c.access.ensures, c.taken.ensures) (taken_fits _ _ _)
 
 pub returns : goal.returns
 unfolding write
-returns c = rw (← c.access.ensures, ← c.taken.ensures) c.write_to.ensures
+returns c = gives_unless _ _ _ (rw (c.access.ensures, c.taken.ensures) at c.write_to.ensures)

@@ -2,11 +2,9 @@
 -- Assumes nothing.
 use Rattle.rules.proofs.Cases.{true_or_false}
 use Rattle.rules.specs.declared.Access.TheVariants.{Whole, Upper}
-use Rattle.std.proofs.Common.{◌≡◌, ◌⊎◌, refl, ⊎_elim}
+use Rattle.std.proofs.Common.{◌≡◌, ◌⊎◌, ⊎_elim}
 use Rattle.registers.specs.Fits.{Bounded, number_for}
-use Rattle.registers.proofs.Outcomes.{accepted}
-use Rattle.rules.specs.Answers.{number}
-use Rattle.rules.specs.Registers.{write_to, raised, sets, unless_refused}
+use Rattle.rules.specs.Registers.{write_to}
 use Rattle.registers.proofs.write_to.Goals as goal
 use Rattle.registers.proofs.write_to.Goals.{In-Whole}
 
@@ -25,18 +23,6 @@ store-requires c =
     (λ e. rw (c.number_for-n.ensures, e) ((rw e at c.requires) n))
     (λ e. true_or_false _ (rw e at c.requires).0 n)
     (reached (goal.at.store-requires c).In-Whole)
-
-pub returns-in-NotAllowed : goal.returns-in-NotAllowed
-unfolding write_to sets unless_refused number raised
-returns-in-NotAllowed c = rw c.in-NotAllowed.is (record { answer = refl; registers = refl; vectors = refl; resets = refl })
-
-pub returns-in-Reserved : goal.returns-in-Reserved
-unfolding write_to
-returns-in-Reserved c = rw c.in-Reserved.is (accepted _ c.done.ensures refl)
-
-pub returns-in-Lower : goal.returns-in-Lower
-unfolding write_to
-returns-in-Lower c = rw c.in-Lower.is (accepted _ c.done-in-Lower.ensures c.latch.ensures)
 
 pub returns-in-Whole : goal.returns-in-Whole
 unfolding write_to number_for
