@@ -80,11 +80,7 @@ fn put(list: &mut [u16], n: usize, copy: Copy)
     ensures { list.new ≡ splice (output_numbers * n) copy list.old }
 {
     let at = OUTPUT_NUMBERS * n;
-    let mut k: usize = 0;
-    while k < OUTPUT_NUMBERS {
-        list[at + k] = copy[k];
-        k += 1;
-    }
+    list[at..at + OUTPUT_NUMBERS].copy_from_slice(&copy);
 }
 
 fn write(list: &mut [u16], n: usize, how: Rewrite, port: u16, pop: bool)

@@ -137,8 +137,8 @@ fn hit_in(
 {
     let all = &rows[..];
     let slots = &order[..];
-    let n = numbers::min(count, all.len());
-    let end = numbers::min(to, n);
+    let n = count.min(all.len());
+    let end = to.min(n);
     let mut i = from;
     while i < end {
         let place = slots[i] as usize;

@@ -46,7 +46,7 @@ fn seek(heads: &GroupHeads, count: usize, id: u32, from: usize) -> Place
     ensures { Sought count heads.now id result.at result.held }
 {
     let all = &heads[..];
-    let n = numbers::min(count, all.len());
+    let n = count.min(all.len());
     let mut at = from;
     while at < n {
         let k = heads[at][0];
@@ -182,7 +182,7 @@ fn resolve(
     ensures { Resolves d ingress count heads.now m result list.old list.new }
 {
     let how = m.rewrite;
-    let size = numbers::min(m.count, MAX_MEMBERS);
+    let size = m.count.min(MAX_MEMBERS);
     let mut k: usize = 0;
     let mut out: usize = 0;
     let mut at: usize = 0;

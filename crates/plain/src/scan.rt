@@ -54,7 +54,7 @@ fn first_hits(rows: &FlowRows, count: usize, port: u32, h: Headers) -> Hits
     ensures { Decides rows.now (decides_best (live_flows count rows.now) 0 (matches_in 0 port (headers_in h))) result.first.found result.first.at × Decides rows.now (decides_best (live_flows count rows.now) 10 (matches_in 10 port (headers_in h))) result.second.found result.second.at × Lacks count rows.now 0 result.terminates }
 {
     let all = &rows[..];
-    let mut i = numbers::min(count, all.len());
+    let mut i = count.min(all.len());
     let mut first = none();
     let mut second = none();
     let mut terminates = false;
@@ -94,7 +94,7 @@ fn hit_in(rows: &FlowRows, count: usize, table: u16, port: u32, h: Headers) -> H
     ensures { Decides rows.now (decides_best (live_flows count rows.now) table (matches_in table port (headers_in h))) result.found result.at }
 {
     let all = &rows[..];
-    let mut i = numbers::min(count, all.len());
+    let mut i = count.min(all.len());
     let mut hit = none();
     loop {
         i = skip(rows, i, table, port, h);

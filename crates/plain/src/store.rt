@@ -26,7 +26,7 @@ pub fn find(rows: &FlowRows, count: usize, cookie: u64) -> Place
     ensures { (length rows.now ≡ max_flows) × Stands cookie result.live count rows.now result.at result.held }
 {
     let all = &rows[..];
-    let n = numbers::min(count, all.len());
+    let n = count.min(all.len());
     let mut at: usize = 0;
     let mut held = false;
     while at < n {

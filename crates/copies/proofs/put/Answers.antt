@@ -1,21 +1,17 @@
--- `copies::put` meets its contract.
+-- A part of the list is stored over.
 -- Assumes nothing.
-use mathlib.Core.Path.{refl}
-use lib.ListN.{length-set}
-use Rattle.copies.proofs.Copying.{copying_starts, copying_goes_on, copying_ends}
-use borrow.Author.Rules.{rules}
+use Prim.Native.Nat.{◌+◌, ◌-◌, ◌*◌}
+use mathlib.Core.Path.{◌≡◌, refl}
+use Rattle.std.proofs.lemmas.List.{drop-drop}
 use native.Mathlib.Omega.{arith}
+use lib.ListN.{length}
+use borrow.Author.Rules.{rules}
+use Rattle.rules.specs.Bytes.{splice}
 use Rattle.copies.proofs.put.Goals as goal
 
-pub loop-k-init : goal.loop-k-init
-loop-k-init c = (omega arith, search rules, search rules, refl, copying_starts _ _ _)
-
-pub loop-k-preserved : goal.loop-k-preserved
-loop-k-preserved c =
-    let l = c.loop-k.invariant in
-    (omega arith, simp length-set l.1, l.2, simp length-set l.3, copying_goes_on _ _ _ _ _ (omega arith) (omega arith) l.4)
-
 pub returns : goal.returns
+unfolding splice
 returns c =
-    let l = c.loop-k.invariant in
-    copying_ends _ _ _ _ _ (omega arith) l.4
+    let k : 9 * c.args.n + 9 - 9 * c.args.n ≡ 9 = omega arith in
+    let l : length c.args.copy ≡ 9 = search rules in
+    rw (k, l, c.copy_from_slice.ensures.after, drop-drop 9 (9 * c.args.n) c.args.list.now) refl
