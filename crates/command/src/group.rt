@@ -128,13 +128,7 @@ pub fn group_in(info: &Fields<'_>) -> Result<(Group, Members), Status>
 /// # Errors
 ///
 /// EINVAL where it is not right.
-#[tactic(auto, unfolding(
-    rules::specs::Decode::group_key_in,
-    rules::specs::Decode::need,
-    rules::specs::Fields::rule_of,
-    rules::specs::Fields::rule_in,
-    rules::specs::Fields::rows,
-))]
+#[tactic(auto, unfolding(rules::specs::Decode::group_key_in, rules::specs::Decode::need, rules::specs::Fields::rule_of, rules::specs::Fields::rule_in, rules::specs::Fields::rows))]
 pub fn group_key_in(info: &Fields<'_>) -> Result<u32, Status>
     ensures { carried_by GroupDel result ≡ group_key_in info.now.terms info.now.bytes }
 {
