@@ -12,6 +12,7 @@ use fields::Fields;
 use rules::{Flow, Match, Status};
 
 // What a flow of table 50 compares.
+#[tactic(auto, unfolding(rules::specs::Decode::match_of, rules::specs::Fields::rule_of, rules::specs::Fields::rule_in, rules::specs::Fields::rows))]
 fn bridging_of(info: &Fields<'_>) -> Match
     ensures { result ≡ match_of (header_of info.now.terms) info.now.bytes 50 }
 {
@@ -53,6 +54,7 @@ fn match_of(info: &Fields<'_>, t: u64, ethertype: u16) -> Match
     }
 }
 
+#[tactic(auto, unfolding(rules::specs::Decode::flow_of, rules::specs::Fields::rule_of, rules::specs::Fields::rule_in, rules::specs::Fields::rows))]
 fn flow_of(info: &Fields<'_>, t: u64, ethertype: u16) -> Flow
     requires { ethertype ≡ ethertype_in (header_of info.now.terms) info.now.bytes }
     ensures { result ≡ flow_of (header_of info.now.terms) info.now.bytes t }
@@ -68,6 +70,7 @@ fn flow_of(info: &Fields<'_>, t: u64, ethertype: u16) -> Flow
     }
 }
 
+#[tactic(auto, unfolding(rules::specs::Decode::flow_user))]
 fn flow_user(t: u64, ethertype: u16) -> u16
     ensures { result ≡ flow_user t ethertype }
 {
@@ -118,6 +121,7 @@ pub fn flow_in(info: &Fields<'_>) -> Result<Flow, Status>
 /// # Errors
 ///
 /// EINVAL where it is not right.
+#[tactic(auto, unfolding(rules::specs::Decode::flow_key_in, rules::specs::Decode::need, rules::specs::Fields::rule_of, rules::specs::Fields::rule_in, rules::specs::Fields::rows))]
 pub fn flow_key_in(info: &Fields<'_>) -> Result<u64, Status>
     ensures { carried_by FlowDel result ≡ flow_key_in info.now.terms info.now.bytes }
 {

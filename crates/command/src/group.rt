@@ -92,6 +92,7 @@ fn group_allowed(info: &Fields<'_>, id: u32) -> bool
     known
 }
 
+#[tactic(auto, unfolding(rules::specs::Decode::group_user))]
 fn group_user(id: u32) -> u16
     ensures { result ≡ group_user id }
 {
@@ -127,6 +128,7 @@ pub fn group_in(info: &Fields<'_>) -> Result<(Group, Members), Status>
 /// # Errors
 ///
 /// EINVAL where it is not right.
+#[tactic(auto, unfolding(rules::specs::Decode::group_key_in, rules::specs::Decode::need, rules::specs::Fields::rule_of, rules::specs::Fields::rule_in, rules::specs::Fields::rows))]
 pub fn group_key_in(info: &Fields<'_>) -> Result<u32, Status>
     ensures { carried_by GroupDel result ≡ group_key_in info.now.terms info.now.bytes }
 {

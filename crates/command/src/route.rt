@@ -36,6 +36,7 @@ pub fn route_of(info: &Fields<'_>, ethertype: u16) -> Match
 }
 
 // The other pair of fields is absent.
+#[tactic(auto, unfolding(rules::specs::Decode::other_absent))]
 fn other_absent(info: &Fields<'_>, ethertype: u16) -> bool
     ensures { result ≡ other_absent (header_of info.now.terms) info.now.bytes ethertype }
 {
@@ -46,6 +47,7 @@ fn other_absent(info: &Fields<'_>, ethertype: u16) -> bool
 }
 
 /// Of a flow of table 30, the other pair is absent.
+#[tactic(auto, unfolding(rules::specs::Decode::pair_alone))]
 pub fn pair_alone(info: &Fields<'_>, t: u64, ethertype: u16) -> bool
     requires { ethertype ≡ ethertype_in (header_of info.now.terms) info.now.bytes }
     ensures { result ≡ pair_alone (header_of info.now.terms) info.now.bytes t }
@@ -57,6 +59,7 @@ pub fn pair_alone(info: &Fields<'_>, t: u64, ethertype: u16) -> bool
 }
 
 /// Who reads its fields, by the family of its addresses.
+#[tactic(auto, unfolding(rules::specs::Decode::flow_user))]
 pub fn user(ethertype: u16) -> u16
     ensures { result ≡ flow_user 30 ethertype }
 {

@@ -34,11 +34,7 @@ fn front(s: &[u8], n: usize) -> u64
 pub fn number_at(s: &[u8], at: usize, n: usize) -> u64
     ensures { result ≡ le_at (min n 8) s.now at }
 {
-    if at <= s.len() {
-        front(&s[at..], n)
-    } else {
-        0
-    }
+    if at <= s.len() { front(&s[at..], n) } else { 0 }
 }
 
 /// A MAC, which stands in wire order: its first byte is the lowest. It has six bytes, as no type has.
