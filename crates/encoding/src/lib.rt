@@ -243,10 +243,8 @@ fn put_flow_fields(out: &mut [u8], at: usize, who: u16, e: FlowEntry) -> usize
     ensures { Puts result out.new at (region_of (flow_fields who e)) out.old 1032 }
 {
     let mut end = at;
-    let mut t: u32 = 1;
-    while t < FIELD_TYPES as u32 {
+    for t in 1..FIELD_TYPES as u32 {
         end = put_flow_field(out, end, who, e, t);
-        t += 1;
     }
     end
 }
@@ -312,13 +310,11 @@ fn put_members(out: &mut [u8], at: usize, id: u32, count: usize, members: Member
     let vlan = group_id::vlan_of(id);
     let n = numbers::min(count, MAX_MEMBERS);
     let mut end = at;
-    let mut i: usize = 0;
-    while i < n {
+    for i in 0..n {
         let kind = i as u32 + 1;
         let rule = fields::rule_of(kind);
         let member = member_id(vlan, members[i]);
         end = put_number(out, end, kind, rule.member_width, member);
-        i += 1;
     }
     end
 }
