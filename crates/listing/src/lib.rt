@@ -16,7 +16,7 @@ use rules::{Counts, FlowEntry, GroupEntry};
 use tables::Places;
 
 // A list so far: how many payloads, and how many bytes with their lengths.
-#[derive(Clone, Copy)]
+#[derive(Clone, Copy, Debug, PartialEq, Eq)]
 pub struct Listed {
     pub count: u64,
     pub size: usize,

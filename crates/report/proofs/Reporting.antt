@@ -1,15 +1,24 @@
--- A number spelled from its last digit on, and texts written one after another: what two writings put is
+-- A number in decimal, and texts written one after another: what two writings put is
 -- one writing of both (`splice_on`), and a number has twenty digits at most.
 -- Assumes nothing.
 use Prim.Native.Nat.{ℕ, zero, suc, ◌+◌, ◌-◌, ◌*◌, ◌/◌, ◌%◌, ◌≤◌, ◌<◌, ◌^◌, min}
+use mathlib.Core.Bool.{false}
 use mathlib.Core.Path.{◌≡◌, refl, sym, ap, ◌∙◌}
 use mathlib.Core.List.{List, [], ◌∷◌, ◌++◌, append_assoc, append-nil}
 use native.Mathlib.Omega.{arith}
 use native.Mathlib.Nat.{pow-suc}
 use lib.ListN.{length, take, drop, set, replicate, length-append, length-set, length-drop, length-take, length-map}
 use lib.Seq.{take_all, drop-cons, drop-set-lt, get_or-set_same}
-use lib.Dec.{ltb}
+use lib.Dec.{ltb, eqb}
 use borrow.Author.Tests.{lt-ltb, le-ltb, eq-eqb, ne_eqb}
+use Rattle.std.specs.Fmt.{decimal as text_of}
+use Rattle.std.proofs.lemmas.Fmt.{AppendsLastDigit, decimal_from_appends, length-decimal-le}
+use Rattle.std.specs.Prelude.{Result, Ok, Err}
+use Rattle.rules.specs.Answers.{refusal_number}
+use Rattle.rules.specs.declared.Refusal.{Refusal}
+use Rattle.rules.specs.declared.Refusal.TheVariants.{AccessNotAllowed, ValueNotAllowed, RingEmpty, CreditsFull, DescriptorOutside, BufferShort, PortNotAllowed, NotAFrame, ListShort, CutShort, BadMark, BadVersion, BadPortCount, RecordDisagrees, TooFewRecords, RoomShort}
+use Rattle.replaying.specs.declared.replay.ReplayFault.{ReplayFault}
+use Rattle.listing.specs.declared.Listed.{Listed}
 use Rattle.rules.specs.Bytes.{splice}
 use Rattle.rules.specs.Rows.{beside}
 use Rattle.rules.specs.Places.{live}
@@ -18,52 +27,19 @@ use Rattle.rules.specs.Journal.{Progress as Rule, digits, decimal, item, line, r
 use Rattle.rules.specs.Journal.Replayed.{Replays, Fails}
 use Rattle.rules.specs.Undo.{word_payloads, word_bytes, undo_report}
 use Rattle.rules.proofs.Cases.{by_test}
-use Rattle.report.specs.Reporting.{Puts, Spells, told_undone}
-use Rattle.report.specs.declared.Digits.{Digits}
+use Rattle.report.specs.Reporting.{Puts, told_undone}
 use Rattle.journal.proofs.Writing.{splice_on}
 
 -- ---- Digits
 
-drop_set : (l : List ℕ) (i v : ℕ) → i < length l → drop i (set l i v) ≡ v ∷ drop (suc i) l
-drop_set l i v h =
-    drop-cons (set l i v) i 0 (rw length-set h) ∙ rw (get_or-set_same l i v 0 h, drop-set-lt (suc i) l i v (omega arith))
+-- the library's text of a number is the rules'
+appends : AppendsLastDigit digits
+unfolding digits
+appends = record { one = λ k n h. rw (lt-ltb n 10 h); more = λ k n h. rw (le-ltb n 10 h) }
 
--- the digits behind a position are there, and those of the rest are left
-pub record Spelling (n rest start : ℕ) (bytes : List ℕ) : Type 0 where
-  pub is : decimal n ≡ digits (suc start) rest ++ drop (suc start) bytes
-  pub size : length bytes ≡ 20
-  pub within : start ≤ 19
-  pub small : rest < 10 ^ suc start
-
-pub spell_starts : (n : ℕ) → n < 2 ^ 64 → Spelling n n 19 (replicate 20 0)
+pub decimal_same : (n : ℕ) → n < 2 ^ 64 → text_of n ≡ decimal n
 unfolding decimal
-spell_starts n h = record { is = sym (append-nil (digits 20 n)); size = refl; within = omega arith; small = omega arith }
-
-pub spell_goes_on : {n rest : ℕ} {bytes : List ℕ} (start : ℕ) → Spelling n rest start bytes → 10 ≤ rest
-    → (1 ≤ start) × Spelling n (rest / 10) (start - 1) (set bytes start (48 + rest % 10))
-unfolding digits
-spell_goes_on {n} {rest} {bytes} zero s h = absurd (omega (arith, s.small))
-spell_goes_on {n} {rest} {bytes} (suc k) s h =
-    let e : suc k - 1 ≡ k = omega arith in
-    let p : 10 ^ suc (suc k) ≡ 10 ^ suc k * 10 = pow-suc 10 (suc k) in (
-      omega arith,
-      record {
-        is = s.is ∙ rw (le-ltb rest 10 h, e, drop_set bytes (suc k) (48 + rest % 10) (omega (arith, s.size, s.within)), append_assoc);
-        size = length-set bytes (suc k) _ ∙ s.size;
-        within = omega (arith, s.within);
-        small = rw e (omega (arith, s.small, p));
-      },
-    )
-
-pub spell_ends : {n rest start : ℕ} {bytes : List ℕ} → Spelling n rest start bytes → rest < 10
-    → Spells (record { start = start; bytes = set bytes start (48 + rest) }) n
-unfolding digits
-spell_ends {n} {rest} {start} {bytes} s h =
-    record {
-      digits_are = drop_set bytes start (48 + rest) (omega (arith, s.size, s.within)) ∙ sym (s.is ∙ rw (lt-ltb rest 10 h));
-      within = omega (arith, s.within);
-      size = length-set bytes start _ ∙ s.size;
-    }
+decimal_same n h = sym (decimal_from_appends digits appends 20 n h (length-decimal-le 20 n (omega arith) (omega arith) h))
 
 digits_short : (k n : ℕ) → length (digits k n) ≤ k
 unfolding digits
@@ -103,17 +79,10 @@ puts_on {at = at} {a = a} {b = b} {s = s} most h k p q =
 pub puts_same : {r at x : ℕ} {a b s t : List ℕ} (most : ℕ) → a ≡ b → length b ≤ most → Puts r t at a s x → Puts r t at b s most
 puts_same most e k p = record { buffer_is = p.buffer_is ∙ rw e; end_is = p.end_is ∙ rw e; at_most = omega (arith, p.end_is, ap length e) }
 
-pub number_put : (r : ℕ) (after : List ℕ) (at : ℕ) (d : Digits) (n : ℕ) (before : List ℕ) → Spells d n → r ≡ at + (20 - d.start)
-    → after ≡ splice at (drop d.start d.bytes) before → Puts r after at (decimal n) before 20
-number_put r after at d n before s e h =
-    record {
-      buffer_is = h ∙ rw s.digits_are;
-      end_is = e ∙ rw (← s.digits_are, length-drop, s.size);
-      at_most = omega arith;
-    }
-
-pub spelled_part : (d : Digits) (n : ℕ) → Spells d n → take (20 - d.start) (drop d.start d.bytes) ≡ drop d.start d.bytes
-spelled_part d n s = take_all (20 - d.start) (drop d.start d.bytes) (rw (length-drop, s.size) (omega arith))
+pub number_put : (r : ℕ) (after : List ℕ) (at n : ℕ) (text before : List ℕ) → n < 2 ^ 64 → text ≡ text_of n → r ≡ at + length text
+    → after ≡ splice at text before → Puts r after at (decimal n) before 20
+number_put r after at n text before h t e q =
+    puts_same 20 (t ∙ decimal_same n h) (decimal_short n) (puts_bytes r after at text before e q)
 
 pub item_put : {s t u v : List ℕ} {at m k r x y z : ℕ} (word : List ℕ) (n : ℕ) → at ≤ length s → Puts m t at word s x → Puts k u m (32 ∷ []) t y
     → Puts r v k (decimal n) u z → Puts r v at (item word n) s (length word + 21)
@@ -174,23 +143,43 @@ list_put count size p q =
     let f = line_short word_bytes size in
     puts_on 160 (omega arith) (simp length-append (omega arith)) p q
 
-module _ {s t : List ℕ} {r : ℕ} (answer at count size : ℕ) where
-  pub told_list : answer ≡ 0 → Puts r t 0 (line word_payloads count ++ line word_bytes size) s 160
-      → Puts r t 0 (undo_report (told_undone answer at count size)) s 160
-  unfolding undo_report
-  told_list e p = rw (eq-eqb answer 0 e) p
+-- a refusal's number is none of a list
+refused_some : (r : Refusal) → eqb (refusal_number r) 0 ≡ false
+unfolding refusal_number
+refused_some AccessNotAllowed = refl
+refused_some ValueNotAllowed = refl
+refused_some RingEmpty = refl
+refused_some CreditsFull = refl
+refused_some DescriptorOutside = refl
+refused_some BufferShort = refl
+refused_some PortNotAllowed = refl
+refused_some NotAFrame = refl
+refused_some ListShort = refl
+refused_some CutShort = refl
+refused_some BadMark = refl
+refused_some BadVersion = refl
+refused_some BadPortCount = refl
+refused_some RecordDisagrees = refl
+refused_some TooFewRecords = refl
+refused_some RoomShort = refl
 
-  pub told_refused : {x : ℕ} → (answer ≡ 0 → ⊥) → 14 < answer → Puts r t 0 (line word_refused answer) s x
-      → Puts r t 0 (undo_report (told_undone answer at count size)) s 160
-  unfolding undo_report
-  told_refused e h p =
-      let f = line_short word_refused answer in
-      rw (ne_eqb answer 0 e, lt-ltb 14 answer h) (puts_same 160 refl (omega arith) p)
+module _ {s t : List ℕ} {r : ℕ} (u : Result Listed ReplayFault) where
+  pub told_list : (l : Listed) → u ≡ Ok l → Puts r t 0 (line word_payloads l.count ++ line word_bytes l.size) s 160
+      → Puts r t 0 (undo_report (told_undone u)) s 160
+  unfolding undo_report told_undone
+  told_list l e p = rw e p
 
-  pub told_fault : (answer ≡ 0 → ⊥) → answer ≤ 14 → Puts r t 0 (report (Fails answer at)) s 160
-      → Puts r t 0 (undo_report (told_undone answer at count size)) s 160
-  unfolding undo_report
-  told_fault e h p = rw (ne_eqb answer 0 e, le-ltb 14 answer h) p
+  pub told_refused : (f : ReplayFault) {n x : ℕ} → u ≡ Err f → n ≡ refusal_number f.refusal → 14 < n → Puts r t 0 (line word_refused n) s x
+      → Puts r t 0 (undo_report (told_undone u)) s 160
+  unfolding undo_report told_undone
+  told_refused f {n} e k h p =
+      let w = line_short word_refused n in
+      rw (e, refused_some f.refusal, ← k, lt-ltb 14 n h) (puts_same 160 refl (omega arith) p)
+
+  pub told_fault : (f : ReplayFault) {n : ℕ} → u ≡ Err f → n ≡ refusal_number f.refusal → n ≤ 14 → Puts r t 0 (report (Fails n f.at)) s 160
+      → Puts r t 0 (undo_report (told_undone u)) s 160
+  unfolding undo_report told_undone
+  told_fault f {n} e k h p = rw (e, refused_some f.refusal, ← k, le-ltb 14 n h) p
 
 -- ---- How many places are live
 

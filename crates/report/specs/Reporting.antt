@@ -1,9 +1,10 @@
 -- Text written into a buffer.
-use Rattle.std.specs.Prelude.{ℕ, ◌+◌, ◌≤◌, ◌≡◌, List, [], length, take, drop}
+use Rattle.std.specs.Prelude.{ℕ, ◌+◌, ◌≤◌, ◌≡◌, List, [], length, take, Result, Ok, Err}
 use Rattle.rules.specs.Bytes.{splice}
-use Rattle.rules.specs.Journal.{decimal}
+use Rattle.rules.specs.Answers.{refusal_number}
 use Rattle.rules.specs.Undo.{Undone}
-use Rattle.report.specs.declared.Digits.{Digits}
+use Rattle.replaying.specs.declared.replay.ReplayFault.{ReplayFault}
+use Rattle.listing.specs.declared.Listed.{Listed}
 
 -- bytes over a buffer from a position on, and where they end; there are no more than `most`
 pub record Puts (r : ℕ) (after : List ℕ) (at : ℕ) (bytes before : List ℕ) (most : ℕ) : Type 0 where
@@ -15,11 +16,7 @@ pub record Puts (r : ℕ) (after : List ℕ) (at : ℕ) (bytes before : List ℕ
 abbrev pub Front : ℕ → List ℕ → Type 0
 Front n s = (n ≤ length s) × (n ≡ length (take n s))
 
-pub record Spells (r : Digits) (n : ℕ) : Type 0 where
-  pub digits_are : drop r.start r.bytes ≡ decimal n
-  pub within : r.start ≤ 20
-  pub size : length r.bytes ≡ 20
-
 -- of what undoing gives, all but the room: that is not printed
-abbrev pub told_undone : ℕ → ℕ → ℕ → ℕ → Undone
-told_undone answer at count size = record { answer = answer; at = at; count = count; size = size; room = [] }
+unfoldable pub told_undone : Result Listed ReplayFault → Undone
+told_undone (Ok l) = record { answer = 0; at = 0; count = l.count; size = l.size; room = [] }
+told_undone (Err f) = record { answer = refusal_number f.refusal; at = f.at; count = 0; size = 0; room = [] }

@@ -9,49 +9,24 @@ ghost use Rattle.rules.specs.Undo.{word_payloads, word_bytes, undo_report};
 ghost use Rattle.replaying.specs.Reading.{progress_of};
 ghost use Rattle.replaying.specs.Replaying.{result_of};
 ghost use Rattle.tables.specs.Arrays.{arrays_of};
-ghost use Rattle.report.specs.Reporting.{Front, Puts, Spells, told_undone};
+ghost use Rattle.report.specs.Reporting.{Front, Puts, told_undone};
 
+use itoa::Buffer;
 use journal::put_bytes;
+use listing::Listed;
 use replaying::reader::Progress;
-use replaying::replay::Replayed;
+use replaying::replay::{ReplayFault, Replayed};
 use rules::{FlowRow, GroupHead, MAX_MEMBERS};
 use tables::Places;
-
-// A number's digits, from a position of 20 bytes on.
-#[derive(Clone, Copy)]
-struct Digits {
-    start: usize,
-    bytes: [u8; 20],
-}
-
-// Decimal digits, from the last one on.
-fn spell(n: u64) -> Digits
-    ensures { Spells result n }
-{
-    let mut bytes = [0u8; 20];
-    let mut start: usize = 19;
-    let mut rest = n;
-    while 10 <= rest {
-        bytes[start] = (48 + rest % 10) as u8;
-        rest = rest / 10;
-        start -= 1;
-    }
-    bytes[start] = (48 + rest) as u8;
-    Digits {
-        start: start,
-        bytes: bytes,
-    }
-}
 
 fn put_number(out: &mut [u8], at: usize, n: u64) -> usize
     requires { at + 20 ≤ length out.old }
     ensures { Puts result out.new at (decimal n) out.old 20 }
 {
-    let d = spell(n);
-    let start = d.start;
-    let bytes = d.bytes;
-    put_bytes(out, at, &bytes[start..]);
-    at + (20 - start)
+    let mut digits = Buffer::new();
+    let text = digits.format(n).as_bytes();
+    put_bytes(out, at, text);
+    at + text.len()
 }
 
 // A word, a space, a number.
@@ -117,13 +92,9 @@ pub fn report(out: &mut [u8; 160], q: Replayed, places: &Places) -> usize
     ensures puts { Puts result out.new 0 (report (result_of q (arrays_of places.now))) out.old 160 }
     ensures front { Front result out.new }
 {
-    let answer = q.answer;
-    let progress = q.progress;
-    let n = answers::number(answer);
-    if n == 0 {
-        put_progress(out, progress, places)
-    } else {
-        put_fault(out, n, q.at)
+    match q {
+        Ok(progress) => put_progress(out, progress, places),
+        Err(fault) => put_fault(out, answers::refusal_number(fault.refusal), fault.at),
     }
 }
 
@@ -137,15 +108,19 @@ fn put_list(out: &mut [u8], count: u64, size: u64) -> usize
 }
 
 // The same of an undone journal: its list's two lines, or the fault; 15 and 16 have no line of the journal.
-pub fn undone(out: &mut [u8; 160], answer: u64, at: u64, count: u64, size: u64) -> usize
-    ensures puts { Puts result out.new 0 (undo_report (told_undone answer at count size)) out.old 160 }
+pub fn undone(out: &mut [u8; 160], u: Result<Listed, ReplayFault>) -> usize
+    ensures puts { Puts result out.new 0 (undo_report (told_undone u)) out.old 160 }
     ensures front { Front result out.new }
 {
-    if answer == 0 {
-        put_list(out, count, size)
-    } else if 14 < answer {
-        put_line(out, 0, b"refused", answer)
-    } else {
-        put_fault(out, answer, at)
+    match u {
+        Ok(listed) => put_list(out, listed.count, listed.size as u64),
+        Err(fault) => {
+            let answer = answers::refusal_number(fault.refusal);
+            if 14 < answer {
+                put_line(out, 0, b"refused", answer)
+            } else {
+                put_fault(out, answer, fault.at)
+            }
+        }
     }
 }

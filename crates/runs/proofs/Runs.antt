@@ -8,6 +8,7 @@ use mathlib.Core.List.{List, [], ◌∷◌, ◌++◌}
 use native.Mathlib.Omega.{arith}
 use borrow.Author.Tests.{leb-true, eq-eqb}
 use lib.Dec.{leb}
+use Rattle.std.specs.Prelude.{Ok, Err}
 use Rattle.rules.specs.Choose.{refuse}
 use Rattle.rules.specs.Limits.{max_ports}
 use Rattle.rules.specs.Answers.{number}
@@ -18,12 +19,11 @@ use Rattle.rules.specs.Journal.{Progress, header, replay}
 use Rattle.rules.specs.Engine.{no_order}
 use Rattle.rules.specs.Switch.{Switch, Storage, order_in, switch_of, fresh_refusal, fresh_switch, fresh_device}
 use Rattle.rules.specs.declared.Device.{Device}
-use Rattle.rules.proofs.Cases.{by_eq, and_left, and_right}
+use Rattle.rules.proofs.Cases.{and_left, and_right}
 use Rattle.device.specs.Outcome.{borrowed, device_after, device_made}
 use Rattle.device.proofs.Outcome.{completed_told, written_told, reset_told}
 use Rattle.replaying.specs.Reading.{progress_of}
-use Rattle.replaying.specs.Replaying.{result_of, Gives}
-use Rattle.replaying.specs.declared.replay.Replayed.{Replayed}
+use Rattle.replaying.specs.Replaying.{result_of, Gives, Replayed}
 use Rattle.history.specs.Trace.{Call, Seen, step_at, seen, final, trace}
 use Rattle.history.specs.JournalHistory.{journal_of}
 use Rattle.history.specs.Claim.{Claim}
@@ -79,20 +79,20 @@ chain_is d a (c ∷ cs) h =
 replayed_as : (ports : ℕ) (s : Switch) (t : List Seen) → Claim ports s t → (q : Replayed) (a : Arrays)
     → Gives q a (replay (header (current_terms ports) ++ (journal_of t).journal)) → ReplayedAs q a ports s t
 unfolding result_of progress_of
-replayed_as ports s t c q a g =
+replayed_as ports s t c (Ok p) a g =
     let e = g.result_is ∙ c.replays in
     let came : Progress = record { terms = current_terms ports; records = (journal_of t).records; charged = (journal_of t).completed_ok; tables = s.tables } in
-    by_eq (number q.answer) 0
-    (λ z p. let f = rw p at e in
-    let i : progress_of q.progress a ≡ came = cc in
+    let i : progress_of p a ≡ came = cc in
     record {
-      answered = z;
+      progress = p;
+      done = refl;
       tables_are = ap (λ (x : Progress). x.tables) i;
       charged_is = ap (λ (x : Progress). x.charged) i;
       records_are = ap (λ (x : Progress). x.records) i;
       ports_are = ap (λ (x : Progress). x.terms.ports) i;
-    })
-    (λ z p. let f = rw p at e in absurd (let w : ◌≡◌ {A = ℕ} 0 1 = cc in omega arith))
+    }
+replayed_as ports s t c (Err f) a g =
+    let e = g.result_is ∙ c.replays in absurd (let w : ◌≡◌ {A = ℕ} 0 1 = cc in omega arith)
 
 -- ---- THE THEOREM
 

@@ -1,7 +1,7 @@
 -- A run of the code: `device::fresh`, and then calls of `device::call`, each on the device and the arrays that the one before it left.
 -- The links are the contracts that the code is proved to keep; guest memory, frame, buffer and list hold anything at each call.
-use Rattle.std.specs.Prelude.{ℕ, ◌≡◌, List, [], ◌∷◌, ◌++◌, take, Result as Either}
-use Rattle.rules.specs.Answers.{number, answer_number}
+use Rattle.std.specs.Prelude.{ℕ, ◌≡◌, List, [], ◌∷◌, ◌++◌, take, Result as Either, Ok}
+use Rattle.rules.specs.Answers.{answer_number}
 use Rattle.rules.specs.Registers.{command_ring, current_terms}
 use Rattle.rules.specs.Tables.{Arrays, tables_of}
 use Rattle.rules.specs.Journal.{header, replay}
@@ -11,8 +11,8 @@ use Rattle.rules.specs.declared.Refusal.{Refusal}
 use Rattle.rules.specs.declared.Request.{Request}
 use Rattle.device.specs.Outcome.{Outcome, Makes, borrowed, told_by, device_after, device_made}
 use Rattle.device.specs.declared.Called.{Called}
-use Rattle.replaying.specs.Replaying.{Gives}
-use Rattle.replaying.specs.declared.replay.Replayed.{Replayed}
+use Rattle.replaying.specs.declared.reader.Progress.{Progress}
+use Rattle.replaying.specs.Replaying.{Gives, Replayed}
 use Rattle.history.specs.Trace.{Seen}
 use Rattle.history.specs.JournalHistory.{journal_of}
 use Rattle.history.specs.Claim.{Claim}
@@ -87,11 +87,12 @@ trace_of r = seen_of (device_made r.made) r.calls
 
 -- What a replay of the code gives, and the arrays that it leaves, are what the run came to: no fault, the device's tables and the charge
 pub record ReplayedAs (q : Replayed) (a : Arrays) (ports : ℕ) (s : Switch) (t : List Seen) : Type 0 where
-  pub answered : number q.answer ≡ 0
-  pub tables_are : tables_of q.progress.counts a ≡ s.tables
-  pub charged_is : q.progress.charged ≡ (journal_of t).completed_ok
-  pub records_are : q.progress.records ≡ (journal_of t).records
-  pub ports_are : q.progress.terms.ports ≡ ports
+  pub progress : Progress
+  pub done : q ≡ Ok progress
+  pub tables_are : tables_of progress.counts a ≡ s.tables
+  pub charged_is : progress.charged ≡ (journal_of t).completed_ok
+  pub records_are : progress.records ≡ (journal_of t).records
+  pub ports_are : progress.terms.ports ≡ ports
 
 -- DEMAND 3 OF THE CODE: the claim, and that `replaying::replay`, by what it ensures of header and journal, gives this back
 pub record CodeClaim (ports : ℕ) (s : Switch) (t : List Seen) : Type 0 where

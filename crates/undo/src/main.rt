@@ -33,15 +33,8 @@ fn help<T: Print + Eprint>(rt: &T) {
 }
 
 fn print<T: Print + Eprint>(rt: &T, u: Undone) {
-    let answer = u.answer;
     let mut text = [0u8; 160];
-    let n = report::undone(
-        &mut text,
-        answers::number(answer),
-        u.at,
-        u.count,
-        u.size as u64,
-    );
+    let n = report::undone(&mut text, u);
     if let Err(e) = Print::write_all(rt, &text[..n]) {
         files::tell(rt, "standard output", &e);
     }
@@ -73,15 +66,13 @@ fn write<T: Files + Eprint>(rt: &T, path: &str, list: &[u8]) -> bool {
 
 // A refused run leaves OUT alone. What is written is printed only where it is all there.
 fn finish<T: Files + Print + Eprint>(rt: &T, u: Undone, room: &[u8], out: &str) {
-    let answer = u.answer;
-    if answers::number(answer) != 0 {
-        print(rt, u);
-        return;
+    if let Ok(listed) = u {
+        let size = numbers::min(listed.size, room.len());
+        if !write(rt, out, &room[..size]) {
+            return;
+        }
     }
-    let size = numbers::min(u.size, room.len());
-    if write(rt, out, &room[..size]) {
-        print(rt, u);
-    }
+    print(rt, u);
 }
 
 // A journal that cannot be read prints nothing on standard output and leaves OUT alone.

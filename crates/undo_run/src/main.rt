@@ -20,13 +20,12 @@ const MOST: usize = 262144;
 // Every byte of a room before the call.
 const KEPT: u8 = 0xa5;
 
-// n, the room's length, the journal's length; and whether there is a question.
+// n, the room's length, the journal's length.
 #[derive(Clone, Copy)]
 struct Question {
     n: u64,
     room: usize,
     journal: usize,
-    there: bool,
 }
 
 // A journal fed in pieces of so many bytes. What a piece leaves stands in front of the next.
@@ -54,15 +53,6 @@ fn in_pieces(
     undoing::write(ended, n, room, places, early)
 }
 
-fn same_numbers(u: Undone, v: Undone) -> bool {
-    let a = u.answer;
-    let b = v.answer;
-    (answers::number(a) == answers::number(b))
-        & (u.at == v.at)
-        & (u.count == v.count)
-        & (u.size == v.size)
-}
-
 fn undo_whole(n: u64, s: &[u8], room: &mut [u8]) -> Undone {
     let mut places = Places::new();
     let mut early = Places::new();
@@ -83,7 +73,7 @@ fn agrees_in(n: u64, s: &[u8], step: usize, whole: Undone, room: &[u8], space: &
 {
     let size = numbers::min(room.len(), space.len());
     let u = undo_in_pieces(n, s, step, &mut space[..size]);
-    same_numbers(u, whole) & (&space[..size] == room)
+    (u == whole) & (&space[..size] == room)
 }
 
 fn agrees(n: u64, s: &[u8], step: usize, whole: Undone, room: &[u8]) -> bool
@@ -95,15 +85,13 @@ fn agrees(n: u64, s: &[u8], step: usize, whole: Undone, room: &[u8]) -> bool
 
 // done and the list's length, or the line that refuses.
 fn print_outcome<W: Write>(out: &mut W, u: Undone) -> io::Result<()> {
-    let answer = u.answer;
-    let number = answers::number(answer);
-    if number == 0 {
+    if let Ok(listed) = u {
         out.write_all(b"done")?;
-        print::value(out, u.size as u64)?;
+        print::value(out, listed.size as u64)?;
         return print::end(out);
     }
     let mut text = [0u8; 160];
-    let n = report::undone(&mut text, number, u.at, u.count, u.size as u64);
+    let n = report::undone(&mut text, u);
     out.write_all(&text[..n])
 }
 
@@ -161,15 +149,17 @@ fn read_full<R: Read>(from: &mut R, buffer: &mut [u8]) -> io::Result<usize>
     Ok(done)
 }
 
-fn ask<R: Read>(from: &mut R) -> io::Result<Question> {
+// The next question; none where the input has no sixteen bytes more.
+fn ask<R: Read>(from: &mut R) -> io::Result<Option<Question>> {
     let mut head = [0u8; 16];
-    let got = read_full(from, &mut head)?;
-    Ok(Question {
+    if read_full(from, &mut head)? < 16 {
+        return Ok(None);
+    }
+    Ok(Some(Question {
         n: wire::le(&head, 0),
         room: wire::le::<u32>(&head, 8) as usize,
         journal: wire::le::<u32>(&head, 12) as usize,
-        there: got == 16,
-    })
+    }))
 }
 
 fn turn<R: Read, W: Write>(
@@ -186,13 +176,11 @@ fn turn<R: Read, W: Write>(
 }
 
 fn answer_all<R: Read, W: Write>(from: &mut R, out: &mut W, buffer: &mut [u8]) -> io::Result<()> {
-    let mut q = ask(from)?;
     for number in 1..1000001u64 {
-        if !q.there {
+        let Some(q) = ask(from)? else {
             break;
-        }
+        };
         turn(from, out, number, q, buffer)?;
-        q = ask(from)?;
     }
     Ok(())
 }

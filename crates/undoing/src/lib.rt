@@ -2,7 +2,7 @@
 
 #![tactic(auto)]
 
-ghost use Rattle.std.specs.Prelude.{◌≡◌};
+ghost use Rattle.std.specs.Prelude.{◌≡◌, Err, IfOk};
 ghost use Rattle.rules.specs.Tables.{tables_of};
 ghost use Rattle.rules.specs.Undo.{payloads, fitted, undo_from, undo};
 ghost use Rattle.replaying.specs.Replaying.{result_of};
@@ -12,28 +12,19 @@ ghost use Rattle.undoing.specs.Undoing.{Is};
 
 use earlier::reading;
 use earlier::reading::Ended;
-use rules::{Answer, Counts};
+use listing::Listed;
+use replaying::replay::ReplayFault;
+use rules::{Counts, Refusal};
 use tables::Places;
 
-// The answer; the record of a journal's fault; how many payloads and bytes the list has.
-#[derive(Clone, Copy)]
-pub struct Undone {
-    pub answer: Answer,
-    pub at: u64,
-    pub count: u64,
-    pub size: usize,
-}
+/// What undoing gives: how many payloads and bytes the list has; or why nothing is written, with the record of a journal's fault.
+pub type Undone = Result<Listed, ReplayFault>;
 
-// Nothing is written.
-fn refuse(answer: Answer, at: u64) -> Undone
-    ensures { (result.answer ≡ answer) × (result.at ≡ at) × (result.count ≡ 0) × (result.size ≡ 0) }
+// A refusal that no record of the journal is named for.
+fn refuse(refusal: Refusal) -> Undone
+    ensures { result ≡ Err (record { refusal = refusal; at = 0 }) }
 {
-    Undone {
-        answer: answer,
-        at: at,
-        count: 0,
-        size: 0,
-    }
+    Err(ReplayFault { refusal, at: 0 })
 }
 
 // The list for two pairs of tables, at the start of a room that has place for it; else 16, and the room as it was: the list is made elsewhere
@@ -51,34 +42,21 @@ fn fit(
     let mut elsewhere = [0u8; 1];
     let needs = listing::list(&mut elsewhere, early_counts, early, counts, places);
     if room.len() < needs.size {
-        return refuse(Answer::RoomShort, 0);
+        return refuse(Refusal::RoomShort);
     }
-    let l = listing::list(room, early_counts, early, counts, places);
-    Undone {
-        answer: Answer::Done,
-        at: 0,
-        count: l.count,
-        size: l.size,
-    }
+    Ok(listing::list(room, early_counts, early, counts, places))
 }
 
 // The list of a journal that was read to its end: 10 to 14, then 15, then 16.
 pub fn write(ended: Ended, n: u64, room: &mut [u8], places: &Places, early: &Places) -> Undone
-    requires { (InOrder (tables_of ended.early (arrays_of early.now))) × (InOrder (tables_of ended.result.progress.counts (arrays_of places.now))) }
+    requires { (InOrder (tables_of ended.early (arrays_of early.now))) × (IfOk ended.result (λ p. InOrder (tables_of p.counts (arrays_of places.now)))) }
     ensures { Is result room.new (undo_from (result_of ended.result (arrays_of places.now)) n (tables_of ended.early (arrays_of early.now)) room.old) }
 {
-    let q = ended.result;
-    let early_counts = ended.early;
-    let answer = q.answer;
-    if answers::number(answer) != 0 {
-        return refuse(answer, q.at);
-    }
-    let p = q.progress;
-    let counts = p.counts;
+    let p = ended.result?;
     if p.records < n {
-        return refuse(Answer::TooFewRecords, 0);
+        return refuse(Refusal::TooFewRecords);
     }
-    fit(room, early_counts, early, counts, places)
+    fit(room, ended.early, early, p.counts, places)
 }
 
 // From a journal and a number n, the list at the start of a room. What stands in the lent arrays before makes no difference.

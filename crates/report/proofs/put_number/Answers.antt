@@ -1,6 +1,7 @@
-use Rattle.report.proofs.Reporting.{number_put, spelled_part}
 use mathlib.Core.Path.{refl, ◌∙◌}
+use borrow.Author.Rules.{rules}
+use Rattle.report.proofs.Reporting.{number_put}
 use Rattle.report.proofs.put_number.Goals as goal
 
 pub returns : goal.returns
-returns c = number_put _ _ _ c.spell-d.result _ _ c.spell-d.ensures refl (c.put_bytes.ensures ∙ rw (spelled_part _ _ c.spell-d.ensures))
+returns c = number_put _ _ _ c.args.n _ _ (search rules) (c.as_bytes-text.ensures.value ∙ c.format.ensures.text) refl c.put_bytes.ensures
