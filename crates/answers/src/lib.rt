@@ -3,33 +3,9 @@
 #![tactic(auto)]
 
 ghost use Rattle.std.specs.Prelude.{◌≡◌};
-ghost use Rattle.rules.specs.Answers.{number, code, refusal_number, answer_number};
+ghost use Rattle.rules.specs.Answers.{code, refusal_number, answer_number};
 
-use rules::{Answer, Refusal, Status};
-
-pub fn number(answer: Answer) -> u64
-    ensures { result ≡ number answer }
-{
-    match answer {
-        Answer::Done => 0,
-        Answer::AccessNotAllowed => 1,
-        Answer::ValueNotAllowed => 2,
-        Answer::RingEmpty => 3,
-        Answer::CreditsFull => 4,
-        Answer::DescriptorOutside => 5,
-        Answer::BufferShort => 6,
-        Answer::PortNotAllowed => 7,
-        Answer::NotAFrame => 8,
-        Answer::ListShort => 9,
-        Answer::CutShort => 10,
-        Answer::BadMark => 11,
-        Answer::BadVersion => 12,
-        Answer::BadPortCount => 13,
-        Answer::RecordDisagrees => 14,
-        Answer::TooFewRecords => 15,
-        Answer::RoomShort => 16,
-    }
-}
+use rules::{Refusal, Status};
 
 /// The number of a refusal.
 #[tactic(auto, unfolding(rules::specs::Answers::refusal_number))]

@@ -25,28 +25,6 @@ pub enum Refusal {
     RoomShort = 16,
 }
 
-// What a call answers. `number` in specs/Answers.antt gives document 01's number of each.
-#[derive(Clone, Copy)]
-pub enum Answer {
-    Done,
-    AccessNotAllowed,
-    ValueNotAllowed,
-    RingEmpty,
-    CreditsFull,
-    DescriptorOutside,
-    BufferShort,
-    PortNotAllowed,
-    NotAFrame,
-    ListShort,
-    CutShort,
-    BadMark,
-    BadVersion,
-    BadPortCount,
-    RecordDisagrees,
-    TooFewRecords,
-    RoomShort,
-}
-
 // How a command ended. `code` in specs/Answers.antt gives document 01's code of each.
 #[derive(Clone, Copy, Debug, PartialEq, Eq)]
 pub enum Status {
@@ -198,7 +176,8 @@ pub struct Tlv {
     pub size: usize,
 }
 
-// What stands at a position of a region: a whole TLV; the region's end; or a fault: bytes that are no whole TLV.
+// What stands at a position of a region: a whole TLV; the region's end; or a fault: bytes that are no whole TLV. Three answers with a rule
+// each: an `Option` of a `Result` would nest them.
 #[derive(Clone, Copy, Debug, PartialEq, Eq)]
 pub enum Step {
     Next(Tlv),
@@ -206,7 +185,8 @@ pub enum Step {
     Fault,
 }
 
-// What a region holds of a type: nothing; one value, by start and length; or a fault: it comes twice or has another width.
+// What a region holds of a type: nothing; one value, by start and length; or a fault: it comes twice or has another width. Three answers with
+// a rule each: an `Option` of a `Result` would nest them.
 #[derive(Clone, Copy, Debug, PartialEq, Eq)]
 pub enum Found {
     Absent,
@@ -304,7 +284,8 @@ pub struct Decoding {
 
 // ---- Tables
 
-// A stored flow. A field that its table does not have, or that was not given, is 0 and false.
+// A stored flow. A field that its table does not have, or that was not given, is 0 and false. `has_mac` and `has_group` stand beside their values
+// as the row that C holds has them (`entry_in`, specs/Rows.antt), and in `Match` as in the rules (`stored_flow`, specs/Tables.antt).
 #[derive(Clone, Copy, Debug, PartialEq, Eq)]
 pub struct FlowEntry {
     pub cookie: u64,

@@ -11,7 +11,6 @@ use lib.Dec.{leb}
 use Rattle.std.specs.Prelude.{Ok, Err}
 use Rattle.rules.specs.Choose.{refuse}
 use Rattle.rules.specs.Limits.{max_ports}
-use Rattle.rules.specs.Answers.{number}
 use Rattle.rules.specs.Places.{live}
 use Rattle.rules.specs.Registers.{port_count_allowed, current_terms}
 use Rattle.rules.specs.Tables.{Arrays, tables_of, empty_tables, none_live}
