@@ -67,3 +67,8 @@ impl Display for Reason<'_> {
         })
     }
 }
+
+/// A line on standard error: what failed, and why.
+pub fn tell<E: Eprint>(rt: &E, what: &str, e: &io::Error) {
+    let _ = eprintln!(rt; "{what}: {}", Reason(e));
+}

@@ -8,7 +8,7 @@ ghost use Rattle.std.specs.Prelude.{◌≤◌, length};
 ghost use Rattle.replaying.specs.Replaying.{longest};
 
 use input::reading::Progress;
-use input::{files, pieces, reading};
+use input::{pieces, reading};
 use replaying::replay;
 use replaying::replay::Replayed;
 use std::fs::File;

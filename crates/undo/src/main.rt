@@ -4,7 +4,6 @@
 
 mod reading;
 
-use input::files;
 use std::env::Env;
 use std::fs::{File, OpenFile};
 use std::io;
