@@ -13,16 +13,16 @@ use Rattle.listing.proofs.group_step.Goals as goal
 pub returns-in_default : goal.returns-in_default
 returns-in_default c =
     let a = c.args in
-    let g = group_stops a.started a.count a.key a.heads.now a.members.now c.told-heads (c.told-heads ∙ sym c.told-members) (sym c.in_default.is ∙ c.next_place.ensures.place) in
+    let g = group_stops a.started a.counts.groups a.key a.places.now.heads a.places.now.members (search rules) (search rules) (sym c.in_default.is ∙ c.next_place.ensures.place) in
     record { steps = step_ends id_of g.0 _ _ _ (group_run_nil _ _ _) g.1 refl refl; key_bound = c.requires.2 }
 
 pub returns-then-picks_group : goal.returns-then-picks_group
 returns-then-picks_group c =
     let a = c.args in
-    let g = group_goes a.started a.counts.groups a.key a.places.now.heads a.places.now.members c.told-heads (c.told-heads ∙ sym c.told-members) c.in-Some.at c.in-Some.ensures.place in
+    let g = group_goes a.started a.counts.groups a.key a.places.now.heads a.places.now.members (search rules) (search rules) c.in-Some.at c.in-Some.ensures.place in
     record {
       steps = step_there id_of g.0 _ (group_in ([], [])) g.1
-          (group_at _ _ a.places.now.heads a.places.now.members c.told-heads c.told-members g.1 ∙ sym c.group_of-e.ensures) refl refl
+          (group_at _ _ a.places.now.heads a.places.now.members (search rules) (search rules) g.1 ∙ sym c.group_of-e.ensures) refl refl
           (group_listed _ _ _ _ c.picks_group.ensures c.if-picks_group.true c.add_group-listed.ensures);
       key_bound = search rules;
     }
@@ -30,10 +30,10 @@ returns-then-picks_group c =
 pub returns-else-picks_group : goal.returns-else-picks_group
 returns-else-picks_group c =
     let a = c.args in
-    let g = group_goes a.started a.counts.groups a.key a.places.now.heads a.places.now.members c.told-heads (c.told-heads ∙ sym c.told-members) c.in-Some.at c.in-Some.ensures.place in
+    let g = group_goes a.started a.counts.groups a.key a.places.now.heads a.places.now.members (search rules) (search rules) c.in-Some.at c.in-Some.ensures.place in
     record {
       steps = step_there id_of g.0 _ (group_in ([], [])) g.1
-          (group_at _ _ a.places.now.heads a.places.now.members c.told-heads c.told-members g.1 ∙ sym c.group_of-e.ensures) refl refl
+          (group_at _ _ a.places.now.heads a.places.now.members (search rules) (search rules) g.1 ∙ sym c.group_of-e.ensures) refl refl
           (group_passed _ _ _ _ c.picks_group.ensures _ _ c.if-picks_group.false);
       key_bound = search rules;
     }
