@@ -140,7 +140,12 @@ impl Host {
         );
         let called = called(device, r);
         let n = called.written.min(buffer.len());
-        told::record(out, answers::answer_number(&r), called.interrupt, &buffer[..n])?;
+        told::record(
+            out,
+            answers::answer_number(&r),
+            called.interrupt,
+            &buffer[..n],
+        )?;
         self.device = Some(called.device);
         Ok(())
     }
