@@ -1,6 +1,6 @@
 /* The bytes that a call copies. memcpy, memmove and memset, which the archive calls for what is long, are counted on their way
  * (`-Wl,--wrap=memcpy,--wrap=memmove,--wrap=memset`). No call may copy a table: the flows have 22,528 bytes, the groups' heads 4,096 and
- * their members 15,872. Places that move up or down by one within their own array are no copy, and are not counted. */
+ * their members 15,872. */
 #include "guest.h"
 
 /* What a call may copy besides the payload and one row of a table for each that is changed. */
@@ -31,17 +31,9 @@ void *__wrap_memcpy(void *to, const void *from, size_t n)
     return __real_memcpy(to, from, n);
 }
 
-/* Whether bytes move within the device by one place: the longest, a flow's, has 88 bytes, a group's members 124. */
-static int is_shift(const void *to, const void *from)
-{
-    uintptr_t a = (uintptr_t)to, b = (uintptr_t)from, start = (uintptr_t)&guest.device, end = start + sizeof guest.device;
-    uintptr_t by = a < b ? b - a : a - b;
-    return start <= a && a < end && start <= b && b < end && by <= 124;
-}
-
 void *__wrap_memmove(void *to, const void *from, size_t n)
 {
-    if (!is_shift(to, from)) count(n);
+    count(n);
     return __real_memmove(to, from, n);
 }
 

@@ -3,7 +3,8 @@
 
 #![tactic(auto)]
 
-ghost use Rattle.std.specs.Prelude.{◌+◌, ◌-◌, ◌<◌, ◌≤◌, ◌≡◌, length, map, Ok as Carry};
+ghost use Rattle.std.specs.Prelude.{◌+◌, ◌-◌, ◌<◌, ◌≤◌, ◌≡◌, length, map, ◌≢◌, Err, IfErr, Ok as Carry};
+ghost use Rattle.rules.specs.declared.Status.TheVariants.{Ok};
 ghost use Rattle.rules.specs.Limits.{max_flows};
 ghost use Rattle.rules.specs.Places.{places, live};
 ghost use Rattle.rules.specs.Rows.{entry_in};
@@ -75,7 +76,8 @@ fn flow_add(
     firsts: Firsts,
     e: FlowEntry,
 ) -> Result<(usize, Firsts), Status>
-    ensures { Added (live entry_in) cookie_of max_flows (places count rows.old) e (status_of result) (places (result_unwrap_or result (count, firsts)).0 rows.new) × AddFollowed (result_unwrap_or result (count, firsts)) firsts count rows.old order.old order.new e }
+    ensures outcome { Added (live entry_in) cookie_of max_flows (places count rows.old) e (status_of result) (places (result_unwrap_or result (count, firsts)).0 rows.new) × AddFollowed (result_unwrap_or result (count, firsts)) firsts count rows.old order.old order.new e }
+    ensures refusal { IfErr result (λ e. e ≢ Ok) }
 {
     let at = tables::free_place(&rows[..], count, e.cookie)?;
     let more = put_in(tables::live(&rows[..], count), order, at, firsts, e);
@@ -91,7 +93,8 @@ fn flow_mod(
     firsts: Firsts,
     e: FlowEntry,
 ) -> Result<(usize, Firsts), Status>
-    ensures { Modded (live entry_in) cookie_of max_flows (places count rows.old) e (status_of result) (places (result_unwrap_or result (count, firsts)).0 rows.new) × ModFollowed (result_unwrap_or result (count, firsts)) firsts count rows.old order.old order.new e }
+    ensures outcome { Modded (live entry_in) cookie_of max_flows (places count rows.old) e (status_of result) (places (result_unwrap_or result (count, firsts)).0 rows.new) × ModFollowed (result_unwrap_or result (count, firsts)) firsts count rows.old order.old order.new e }
+    ensures refusal { IfErr result (λ e. e ≢ Ok) }
 {
     let at = tables::held_place(&rows[..], count, e.cookie)?;
     let moved = ranked(tables::live(&rows[..], count), order, at, firsts, e);
@@ -106,7 +109,8 @@ fn flow_del(
     firsts: Firsts,
     cookie: u64,
 ) -> Result<(usize, Firsts), Status>
-    ensures { Deleted (live entry_in) cookie_of max_flows (places count rows.old) cookie (status_of result) (places (result_unwrap_or result (count, firsts)).0 rows.new) × DelFollowed (result_unwrap_or result (count, firsts)) firsts count rows.old order.old order.new cookie }
+    ensures outcome { Deleted (live entry_in) cookie_of max_flows (places count rows.old) cookie (status_of result) (places (result_unwrap_or result (count, firsts)).0 rows.new) × DelFollowed (result_unwrap_or result (count, firsts)) firsts count rows.old order.old order.new cookie }
+    ensures refusal { IfErr result (λ e. e ≢ Ok) }
 {
     let at = tables::held_place(&rows[..], count, cookie)?;
     let less = taken_out(tables::live(&rows[..], count), order, at, firsts);
@@ -127,7 +131,8 @@ fn command(
     members: &mut GroupMembers,
     order: &mut FlowOrder,
 ) -> Result<(Counts, Firsts), Status>
-    ensures { Carries result counts firsts (storage flows.old heads.old members.old order.old) (storage flows.new heads.new members.new order.new) (record { what = Carry c; members = m }) }
+    ensures outcome { Carries result counts firsts (storage flows.old heads.old members.old order.old) (storage flows.new heads.new members.new order.new) (record { what = Carry c; members = m }) }
+    ensures refusal { IfErr result (λ e. e ≢ Ok) }
 {
     match c {
         Command::FlowAdd(f) => {
@@ -161,7 +166,8 @@ pub fn carry_out(
     members: &mut GroupMembers,
     order: &mut FlowOrder,
 ) -> Result<(Counts, Firsts), Status>
-    ensures { Carries result counts firsts (storage flows.old heads.old members.old order.old) (storage flows.new heads.new members.new order.new) d }
+    ensures outcome { Carries result counts firsts (storage flows.old heads.old members.old order.old) (storage flows.new heads.new members.new order.new) d }
+    ensures refusal { d.what ≢ Err Ok → IfErr result (λ e. e ≢ Ok) }
 {
     let c = d.what?;
     command(c, d.members, counts, firsts, flows, heads, members, order)

@@ -10,6 +10,7 @@ use lib.Dec.{leb, eqb}
 use borrow.Author.Tests.{leb-true}
 use Rattle.std.proofs.Common.{Option, Some, None, Result, Ok, Err}
 use Rattle.std.specs.Option.{ok_or}
+use Rattle.std.specs.Result.{result_ok}
 use Rattle.rules.specs.Limits.{max_ports}
 use Rattle.rules.specs.Fields.{value}
 use Rattle.rules.specs.GroupId.{group_type, is_routing, group_id_allowed}
@@ -34,14 +35,14 @@ and_false true = refl
 and_false false = refl
 
 -- what is listed is right for its count
-listed_some : (count : ℕ) (c : Collected) (l : List ℕ) → listed count c ≡ Some l → (l ≡ pad c.lows) × (members_right count c ≡ true)
+listed_some : (count : ℕ) (c : Collected) (l : List ℕ) → result_ok (listed count c) ≡ Some l → (l ≡ pad c.lows) × (members_right count c ≡ true)
 unfolding listed
 listed_some count c l e =
     by_test (members_right count c)
     (λ p. let q : ◌≡◌ {A = Option (List ℕ)} (Some (pad c.lows)) (Some l) = sym (rw p) ∙ e in (cc, p))
     (λ p. let q : ◌≡◌ {A = Option (List ℕ)} None (Some l) = sym (rw p) ∙ e in clash cc)
 
-listed_none : (count : ℕ) (c : Collected) → listed count c ≡ None → members_right count c ≡ false
+listed_none : (count : ℕ) (c : Collected) → result_ok (listed count c) ≡ None → members_right count c ≡ false
 unfolding listed
 listed_none count c e =
     by_test (members_right count c)

@@ -1,5 +1,6 @@
 -- What is read of a payload, or the status of its first fault, as the rules' decoding.
 use Rattle.std.specs.Prelude.{ℕ, List, [], eqb, Result, Ok, Err, Option, Some}
+use Rattle.std.specs.Result.{result_ok}
 use Rattle.rules.specs.Choose.{choose}
 use Rattle.rules.specs.Fields.{value}
 use Rattle.rules.specs.GroupId.{group_type, is_routing}
@@ -28,4 +29,4 @@ unfoldable pub lows_of : ℕ → List ℕ → ℕ → Option (List ℕ)
 lows_of h s id =
     choose (eqb (group_type id) 0) (Some (pad []))
     (choose (is_routing (group_type id)) (Some (pad (members_of h s id).lows))
-    (listed (value h s 12) (members_of h s id)))
+    (result_ok (listed (value h s 12) (members_of h s id))))

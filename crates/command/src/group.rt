@@ -68,6 +68,7 @@ fn members_of(info: &Fields<'_>, id: u32) -> Option<Members>
         group_id::vlan_of(id),
         info.value(fields::GROUP_COUNT),
     )
+    .ok()
 }
 
 // The ranges of a group's fields, but for its members.

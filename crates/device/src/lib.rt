@@ -172,7 +172,7 @@ pub fn process(
 {
     let ring = registers::command_ring(d.registers);
     let t = slot::take(memory, ring, buffer.len())?;
-    let q = slot::prepare(memory, buffer, t.payload, terms_of(d.registers));
+    let q = slot::prepare_taken(memory, buffer, t.payload, terms_of(d.registers));
     let counts = d.counts;
     let firsts = d.firsts;
     let x = carrying::carry_out(q, counts, firsts, flows, heads, members, order);

@@ -2,7 +2,8 @@
 
 #![tactic(auto)]
 
-ghost use Rattle.std.specs.Prelude.{ℕ, List, ◌≡◌};
+ghost use Rattle.std.specs.Prelude.{ℕ, List, ◌≡◌, ◌≢◌, Err, IfErr};
+ghost use Rattle.rules.specs.declared.Status.TheVariants.{Ok};
 ghost use Rattle.rules.specs.Tables.{arrays, tables_of, stored_flow, flow_entry, group_entry, carry_out};
 ghost use Rattle.execute.specs.Outcome.{Executes, Commands, OnGroups};
 ghost use Rattle.rules.specs.declared.Command.TheVariants.{GroupAdd, GroupMod, GroupDel};
@@ -184,7 +185,8 @@ pub fn group_add(
     heads: &mut GroupHeads,
     members: &mut GroupMembers,
 ) -> Result<Counts, Status>
-    ensures { OnGroups result counts heads.old members.old heads.new members.new (GroupAdd g) m }
+    ensures outcome { OnGroups result counts heads.old members.old heads.new members.new (GroupAdd g) m }
+    ensures refusal { IfErr result (λ e. e ≢ Ok) }
 {
     let groups = tables::group_add(heads, members, counts.groups, group_entry(g, m))?;
     Ok(Counts { groups, ..counts })
@@ -197,7 +199,8 @@ pub fn group_mod(
     heads: &mut GroupHeads,
     members: &mut GroupMembers,
 ) -> Result<Counts, Status>
-    ensures { OnGroups result counts heads.old members.old heads.new members.new (GroupMod g) m }
+    ensures outcome { OnGroups result counts heads.old members.old heads.new members.new (GroupMod g) m }
+    ensures refusal { IfErr result (λ e. e ≢ Ok) }
 {
     let groups = tables::group_mod(heads, members, counts.groups, group_entry(g, m))?;
     Ok(Counts { groups, ..counts })
@@ -209,7 +212,8 @@ pub fn group_del(
     heads: &mut GroupHeads,
     members: &mut GroupMembers,
 ) -> Result<Counts, Status>
-    ensures { (m : List ℕ) → OnGroups result counts heads.old members.old heads.new members.new (GroupDel id) m }
+    ensures outcome { (m : List ℕ) → OnGroups result counts heads.old members.old heads.new members.new (GroupDel id) m }
+    ensures refusal { IfErr result (λ e. e ≢ Ok) }
 {
     let groups = tables::group_del(heads, members, counts.groups, id)?;
     Ok(Counts { groups, ..counts })
@@ -224,7 +228,8 @@ fn command(
     heads: &mut GroupHeads,
     members: &mut GroupMembers,
 ) -> Result<Counts, Status>
-    ensures { Commands result counts (arrays flows.old heads.old members.old) (arrays flows.new heads.new members.new) c m }
+    ensures outcome { Commands result counts (arrays flows.old heads.old members.old) (arrays flows.new heads.new members.new) c m }
+    ensures refusal { IfErr result (λ e. e ≢ Ok) }
 {
     let live = match c {
         Command::FlowAdd(f) => tables::flow_add(flows, counts.flows, flow_entry(f))?,
@@ -249,7 +254,8 @@ pub fn execute(
     heads: &mut GroupHeads,
     members: &mut GroupMembers,
 ) -> Result<Counts, Status>
-    ensures { Executes result counts (arrays flows.old heads.old members.old) (arrays flows.new heads.new members.new) (carry_out (tables_of counts (arrays flows.old heads.old members.old)) d) }
+    ensures outcome { Executes result counts (arrays flows.old heads.old members.old) (arrays flows.new heads.new members.new) (carry_out (tables_of counts (arrays flows.old heads.old members.old)) d) }
+    ensures refusal { d.what ≢ Err Ok → IfErr result (λ e. e ≢ Ok) }
 {
     let c = d.what?;
     command(c, d.members, counts, flows, heads, members)

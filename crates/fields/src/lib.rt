@@ -1,11 +1,17 @@
-//! The table of fields, and the fields of a region looked up by it. Every function is equal to a rule of `rules`.
+//! The table of fields, and the fields of a region looked up by it. Every function is equal to a rule of `rules`; `header` is how many
+//! header bytes a length counts, and `places` is the region's index.
 
 #![tactic(auto)]
 
-ghost use Rattle.std.specs.Prelude.{◌≡◌};
-ghost use Rattle.rules.specs.Fields.{rule_of, right, has_user};
+ghost use Rattle.std.specs.Prelude.{◌≡◌, ◌+◌, ◌*◌, ◌^◌, ◌≤◌, ◌<◌};
+ghost use Rattle.rules.specs.Limits.{field_types};
+ghost use Rattle.rules.specs.Bytes.{swapped};
+ghost use Rattle.rules.specs.Fields.{rule_of, field, given, is_absent, value, right, has_user, field_right, fields_right};
+ghost use Rattle.tlv.specs.Index.{Indexed};
 
-use rules::{FieldRule, Found};
+use rules::{FIELD_TYPES, FieldRule, Found};
+use tlv::Places;
+use wire::Halves;
 
 mod region;
 
@@ -323,6 +329,58 @@ pub fn rule_of(t: u32) -> FieldRule
     if t < 63 { FIELDS[t as usize] } else { NOTHING }
 }
 
+/// What the region holds of a field, at the width of its row.
+#[tactic(auto, unfolding(rules::specs::Fields::field))]
+pub fn field(s: &[u8], header: usize, places: &Places, t: u32) -> Found
+    requires { (Indexed header s.now places.now) × (t < field_types) }
+    ensures { result ≡ field header s.now t }
+{
+    found::found(s, header, places, t, rule_of(t).width)
+}
+
+/// The field stands there once, at its width.
+#[tactic(auto, unfolding(rules::specs::Fields::given))]
+pub fn given(s: &[u8], header: usize, places: &Places, t: u32) -> bool
+    requires { (Indexed header s.now places.now) × (t < field_types) }
+    ensures { result ≡ given header s.now t }
+{
+    found::is_at(field(s, header, places, t))
+}
+
+/// Nothing of the field stands there, at any width.
+pub fn absent(s: &[u8], header: usize, places: &Places, t: u32) -> bool
+    requires { (Indexed header s.now places.now) × (t < field_types) }
+    ensures { result ≡ is_absent (field header s.now t) }
+{
+    found::is_absent(field(s, header, places, t))
+}
+
+// The number of a field of eight bytes at most.
+fn number(s: &[u8], header: usize, places: &Places, t: u32) -> u64
+    requires { (Indexed header s.now places.now) × (t < field_types) × ((rule_of t).width ≤ 8) }
+    ensures value { result ≡ value header s.now t }
+    ensures fits { result < 256 ^ (rule_of t).width }
+{
+    let width = rule_of(t).width;
+    found::number_in(s, width, found::found(s, header, places, t, width))
+}
+
+/// The number of a field of eight bytes at most, 0 where it is not given.
+pub fn value(s: &[u8], header: usize, places: &Places, t: u32) -> u64
+    requires { (Indexed header s.now places.now) × (t < field_types) × ((rule_of t).width ≤ 8) }
+    ensures { result ≡ value header s.now t }
+{
+    number(s, header, places, t)
+}
+
+/// The number of a field of 16 bytes, which is big-endian, 0 where it is not given.
+pub fn wide_value(s: &[u8], header: usize, places: &Places, t: u32) -> Halves
+    requires { (Indexed header s.now places.now) × (t < field_types) × ((rule_of t).width ≡ 16) }
+    ensures { result.high * 2 ^ 64 + result.low ≡ swapped 16 (value header s.now t) }
+{
+    found::wide_in(s, field(s, header, places, t))
+}
+
 #[tactic(auto, unfolding(rules::specs::Fields::right))]
 fn right(needed: bool, f: Found) -> bool
     ensures { result ≡ right needed f }
@@ -340,4 +398,33 @@ pub fn has_user(set: u16, who: u16) -> bool
     ensures { result ≡ has_user set who }
 {
     set & who != 0
+}
+
+// A field that is used is right; one that is not used is skipped.
+#[tactic(auto, unfolding(rules::specs::Fields::field_right, rules::specs::Fields::field))]
+fn field_right(s: &[u8], header: usize, places: &Places, who: u16, t: u32) -> bool
+    requires { (Indexed header s.now places.now) × (t < field_types) }
+    ensures { result ≡ field_right header s.now who t }
+{
+    let rule = rule_of(t);
+    if !has_user(rule.uses, who) {
+        return true;
+    }
+    right(
+        has_user(rule.needs, who),
+        found::found(s, header, places, t, rule.width),
+    )
+}
+
+/// No field is missing, repeated or of another width for who reads the region. No type past POP_VLAN is listed.
+pub fn fields_right(s: &[u8], header: usize, places: &Places, who: u16) -> bool
+    requires { Indexed header s.now places.now }
+    ensures { result ≡ fields_right header s.now who }
+{
+    for t in (0..FIELD_TYPES as u32).rev() {
+        if !field_right(s, header, places, who, t) {
+            return false;
+        }
+    }
+    true
 }

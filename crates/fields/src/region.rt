@@ -4,12 +4,12 @@ ghost use Rattle.std.specs.Prelude.{◌≡◌, ◌+◌, ◌*◌, ◌^◌, ◌≤
 ghost use Rattle.rules.specs.Limits.{field_types};
 ghost use Rattle.rules.specs.Bytes.{swapped, swap16};
 ghost use Rattle.rules.specs.Region.{lookup};
-ghost use Rattle.rules.specs.Fields.{rule_of, field, given, is_absent, value, nest_in, field_right, fields_right};
+ghost use Rattle.rules.specs.Fields.{rule_of, field, given, is_absent, value, nest_in, fields_right};
 ghost use Rattle.rules.specs.Decode.{header_of};
 ghost use Rattle.tlv.specs.Index.{Indexed};
 ghost use Rattle.fields.specs.Region.{Region, region_of};
 
-use rules::{FIELD_TYPES, Found, Terms};
+use rules::{Found, Terms};
 use std::marker::Model;
 use tlv::{Malformed, Places};
 use wire::Halves;
@@ -73,21 +73,19 @@ impl<'a> Fields<'a> {
     }
 
     /// What the region holds of a field, at the width of its row.
-    #[tactic(auto, unfolding(rules::specs::Fields::field))]
     pub fn field(&self, t: u32) -> Found
         requires { t < field_types }
         ensures { result ≡ field (header_of self.now.terms) self.now.bytes t }
     {
-        self.get(t, crate::rule_of(t).width)
+        crate::field(self.region, self.header, &self.places, t)
     }
 
     /// The field stands there once, at its width.
-    #[tactic(auto, unfolding(rules::specs::Fields::given))]
     pub fn given(&self, t: u32) -> bool
         requires { t < field_types }
         ensures { result ≡ given (header_of self.now.terms) self.now.bytes t }
     {
-        found::is_at(self.field(t))
+        crate::given(self.region, self.header, &self.places, t)
     }
 
     /// Nothing of the field stands there, at any width.
@@ -95,7 +93,7 @@ impl<'a> Fields<'a> {
         requires { t < field_types }
         ensures { result ≡ is_absent (field (header_of self.now.terms) self.now.bytes t) }
     {
-        found::is_absent(self.field(t))
+        crate::absent(self.region, self.header, &self.places, t)
     }
 
     // The number of a field of eight bytes at most.
@@ -104,8 +102,7 @@ impl<'a> Fields<'a> {
         ensures value { result ≡ value (header_of self.now.terms) self.now.bytes t }
         ensures fits { result < 256 ^ (rule_of t).width }
     {
-        let width = crate::rule_of(t).width;
-        found::number_in(self.region, width, self.get(t, width))
+        crate::number(self.region, self.header, &self.places, t)
     }
 
     /// The number of a field of eight bytes at most, 0 where it is not given.
@@ -113,7 +110,7 @@ impl<'a> Fields<'a> {
         requires { (t < field_types) × ((rule_of t).width ≤ 8) }
         ensures { result ≡ value (header_of self.now.terms) self.now.bytes t }
     {
-        self.number(t)
+        crate::value(self.region, self.header, &self.places, t)
     }
 
     /// The number of a field of four bytes at most.
@@ -155,7 +152,7 @@ impl<'a> Fields<'a> {
         requires { (t < field_types) × ((rule_of t).width ≡ 16) }
         ensures { result.high * 2 ^ 64 + result.low ≡ swapped 16 (value (header_of self.now.terms) self.now.bytes t) }
     {
-        found::wide_in(self.region, self.field(t))
+        crate::wide_value(self.region, self.header, &self.places, t)
     }
 
     /// The region in a field, empty where there is none.
@@ -166,28 +163,10 @@ impl<'a> Fields<'a> {
         found::nest_in(self.region, self.field(t))
     }
 
-    // A field that is used is right; one that is not used is skipped.
-    #[tactic(auto, unfolding(rules::specs::Fields::field_right, rules::specs::Fields::field))]
-    fn field_right(&self, who: u16, t: u32) -> bool
-        requires { t < field_types }
-        ensures { result ≡ field_right (header_of self.now.terms) self.now.bytes who t }
-    {
-        let rule = crate::rule_of(t);
-        if !crate::has_user(rule.uses, who) {
-            return true;
-        }
-        crate::right(crate::has_user(rule.needs, who), self.get(t, rule.width))
-    }
-
     /// No field is missing, repeated or of another width for who reads the region. No type past POP_VLAN is listed.
     pub fn right_for(&self, who: u16) -> bool
         ensures { result ≡ fields_right (header_of self.now.terms) self.now.bytes who }
     {
-        for t in 0..FIELD_TYPES as u32 {
-            if !self.field_right(who, t) {
-                return false;
-            }
-        }
-        true
+        crate::fields_right(self.region, self.header, &self.places, who)
     }
 }

@@ -72,3 +72,8 @@ impl Display for Reason<'_> {
 pub fn tell<E: Eprint>(rt: &E, what: &str, e: &io::Error) {
     let _ = eprintln!(rt; "{what}: {}", Reason(e));
 }
+
+/// Names an input that cannot be opened or read, on standard error, and says why.
+pub fn fail<E: Eprint>(rt: &E, path: &str, e: &io::Error) {
+    tell(rt, name(path), e);
+}

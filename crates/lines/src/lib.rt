@@ -55,11 +55,10 @@ pub struct Line<'l> {
     pub end: End,
 }
 
-/// An input that is read by way of a buffer: of the bytes that it holds, those from `at` to `got` are in no line yet.
-#[derive(Drop)]
-pub struct Reader<'a, R: Read> {
-    from: &'a mut R,
-    input: &'a mut [u8],
+/// How far an input is read by way of a buffer, which its owner keeps beside it and hands to each call: of the bytes that the buffer holds,
+/// those from `at` to `got` are in no line yet.
+#[derive(Clone, Copy)]
+pub struct Reader {
     at: usize,
     got: usize,
     number: u64,
@@ -83,12 +82,10 @@ fn ended<'l>(line: &'l [u8], used: Option<usize>, end: End) -> Line<'l> {
     Line { text, end }
 }
 
-impl<'a, R: Read> Reader<'a, R> {
+impl Reader {
     /// An input of which nothing has been read.
-    pub fn new(from: &'a mut R, input: &'a mut [u8]) -> Reader<'a, R> {
+    pub fn new() -> Reader {
         Reader {
-            from,
-            input,
             at: 0,
             got: 0,
             number: 0,
@@ -101,9 +98,15 @@ impl<'a, R: Read> Reader<'a, R> {
     }
 
     // Takes more of the line under way, up to its end or to that of what was read: what ends it.
-    fn step(&mut self, line: &mut [u8], used: &mut Option<usize>) -> Option<End> {
+    fn step<R: Read>(
+        &mut self,
+        from: &mut R,
+        input: &mut [u8],
+        line: &mut [u8],
+        used: &mut Option<usize>,
+    ) -> Option<End> {
         let (at, got) = (self.at, self.got);
-        let unread = self.input.get(at..got).unwrap_or_default();
+        let unread = input.get(at..got).unwrap_or_default();
         match unread.iter().position(|b| *b == b'\n') {
             Some(n) => {
                 *used = append(line, *used, &unread[..n]);
@@ -112,16 +115,16 @@ impl<'a, R: Read> Reader<'a, R> {
             }
             None => {
                 *used = append(line, *used, unread);
-                self.refill()
+                self.refill(from, input)
             }
         }
     }
 
     // Reads into the buffer, all of which is used up: the line's end, where there is nothing more to read.
-    fn refill(&mut self) -> Option<End> {
+    fn refill<R: Read>(&mut self, from: &mut R, input: &mut [u8]) -> Option<End> {
         self.at = 0;
         self.got = 0;
-        match self.from.read(self.input) {
+        match from.read(input) {
             Ok(0) => Some(End::Input),
             Ok(got) => {
                 self.got = got;
@@ -131,12 +134,18 @@ impl<'a, R: Read> Reader<'a, R> {
         }
     }
 
-    /// The next line. A last one needs no newline, and keeps a CR; after one with a newline stands an empty one.
-    pub fn take<'l>(&mut self, line: &'l mut [u8]) -> Line<'l> {
+    /// The next line of the input, by way of its buffer. A last one needs no newline, and keeps a CR; after one with a newline stands an empty
+    /// one.
+    pub fn take<'l, R: Read>(
+        &mut self,
+        from: &mut R,
+        input: &mut [u8],
+        line: &'l mut [u8],
+    ) -> Line<'l> {
         self.number = self.number.wrapping_add(1);
         let mut used = Some(0);
         for _ in 0..u64::MAX {
-            if let Some(end) = self.step(line, &mut used) {
+            if let Some(end) = self.step(from, input, line, &mut used) {
                 return ended(line, used, end);
             }
         }

@@ -9,9 +9,8 @@ use native.Mathlib.Numerals.{add-one}
 use lib.ListN.{length, length-append, length-set, get_or, take, drop, set, replicate, drop_of_length-le}
 use lib.Seq.{drop-cons, set_at, take-suc-set, length-take-le}
 use lib.Dec.{eqb, leb}
-use borrow.Author.Tests.{ltb-true, le-leb}
+use borrow.Author.Tests.{ne_eqb, ltb-true, le-leb}
 use Rattle.std.proofs.Common.{Option, Some, None, Ok, Err}
-use Rattle.std.specs.Result.{result_ok}
 use Rattle.rules.specs.Choose.{choose}
 use Rattle.rules.specs.Bytes.{le_at}
 use Rattle.rules.specs.Region.{well_formed}
@@ -19,7 +18,7 @@ use Rattle.rules.specs.Fields.{rule_of}
 use Rattle.rules.specs.GroupId.{group_type, group_vlan}
 use Rattle.rules.specs.Members.{Collected, elem, member_right, members_right, collect, members_in, pad}
 use Rattle.rules.specs.declared.Tlv.{Tlv}
-use Rattle.rules.proofs.Cases.{by_test, by_eq, and_left}
+use Rattle.rules.proofs.Cases.{by_test, by_le, by_eq, and_left}
 use Rattle.tlv.specs.declared.reader.Malformed.{Malformed}
 use Rattle.tlv.specs.Reading.{Read, left}
 use Rattle.tlv.proofs.Indexing.{good, faultless, good_left, faultless_left}
@@ -76,10 +75,27 @@ module _ (lows : List ℕ) (n low : ℕ) (room : n < 62) (all : length lows ≡ 
       let k : length (take n lows) ≡ n = length-take-le n lows (omega arith) in
       ap (λ (l : List ℕ). set l n low) e ∙ pad_set (take n lows) n low room k ∙ ap pad (sym store_members)
 
--- nobody is handed over of those
-listed_nobody : (count : ℕ) (c : Collected) → c ≡ nobody → None ≡ listed count c
-unfolding listed members_right
-listed_nobody count c e = rw e
+-- no members are right for no count
+pub none_right : (count : ℕ) (b : Bool) → members_right count (record { right = b; lows = [] }) ≡ false
+unfolding members_right
+none_right count true =
+    by_le 1 count
+    (λ h p. let z = ne_eqb 0 count (λ e. omega arith) in by_test (leb count 62) (λ q. simp (p, q, z)) (λ q. simp (p, q)))
+    (λ h p. simp p)
+none_right count false = refl
+
+-- one member is right for a count of one
+pub one_right : (count low : ℕ) → eqb count 1 ≡ members_right count (record { right = true; lows = low ∷ [] })
+unfolding members_right
+one_right count low =
+    by_eq count 1
+    (λ e p. rw e)
+    (λ n p. let z = ne_eqb 1 count (λ e. n (sym e)) in by_test (leb 1 count && leb count 62) (λ q. simp (p, q, z)) (λ q. simp (p, q)))
+
+-- of nobody zeros are handed over, as not right
+listed_nobody : (count : ℕ) (c : Collected) → c ≡ nobody → Err (replicate 62 0) ≡ listed count c
+unfolding listed pad
+listed_nobody count c e = rw (e, none_right count false)
 
 -- Where the reading of a region stands: n members are at the front of the 62 numbers, and what is still to be read decides
 pub record Reading (h : ℕ) (s : List ℕ) (vlan : ℕ) (rest : List Read) (lows : List ℕ) (n : ℕ) : Type 0 where
@@ -128,18 +144,18 @@ module _ {h : ℕ} {s : List ℕ} {vlan : ℕ} {lows : List ℕ} {n : ℕ} where
         (λ b. let q : ◌≡◌ {A = Option ℕ} (Some low) None = e ∙ rw b in absurd (let z : ◌≡◌ {A = ℕ} 0 1 = cc in omega arith))
 
     -- one that is none fails the list
-    pub reading_fails : (count : ℕ) → None ≡ taken s vlan (take n lows) n x → None ≡ listed count (members_in h s vlan)
+    pub reading_fails : (count : ℕ) → None ≡ taken s vlan (take n lows) n x → Err (replicate 62 0) ≡ listed count (members_in h s vlan)
     reading_fails count e =
         by_test (right_after s vlan (take n lows) n x)
         (λ b. let q : ◌≡◌ {A = Option ℕ} None (Some (low_at s x)) = e ∙ rw b in absurd (let z : ◌≡◌ {A = ℕ} 0 1 = cc in omega arith))
         (λ b. listed_nobody count _ (takes false b ∙ by_test (well_formed h s) (λ p. simp p) (λ p. simp p)))
 
   -- so does a fault
-  pub reading_stops : {m : Malformed} {rest : List Read} → Reading h s vlan (Err m ∷ rest) lows n → (count : ℕ) → None ≡ listed count (members_in h s vlan)
+  pub reading_stops : {m : Malformed} {rest : List Read} → Reading h s vlan (Err m ∷ rest) lows n → (count : ℕ) → Err (replicate 62 0) ≡ listed count (members_in h s vlan)
   reading_stops r count = listed_nobody count _ (r.decides ∙ rw (← r.whole))
 
   -- at the end all are members, and their number is compared
-  pub reading_ends : Reading h s vlan [] lows n → (count : ℕ) → choose (leb 1 count && eqb n count) (Some lows) None ≡ listed count (members_in h s vlan)
+  pub reading_ends : Reading h s vlan [] lows n → (count : ℕ) → choose (leb 1 count && eqb n count) (Ok lows) (Err lows) ≡ listed count (members_in h s vlan)
   unfolding listed members_right collect
   reading_ends r count =
       let k : length (take n lows) ≡ n = length-take-le n lows (omega (arith, r.few, r.places)) in
@@ -147,12 +163,3 @@ module _ {h : ℕ} {s : List ℕ} {vlan : ℕ} {lows : List ℕ} {n : ℕ} where
       (by_eq n count
       (λ e p. rw (p, le-leb count 62 (omega (arith, r.few))) (by_test (leb 1 count) (λ q. rw q) (λ q. rw q)))
       (λ d p. rw p (by_test (leb 1 count) (λ q. rw q (by_test (leb count 62) (λ t. rw t) (λ t. rw t))) (λ q. rw q))))
-
--- what is read is a TLV or a fault
-pub read_good : (t : Read) (o : Option Tlv) (x : Tlv) → o ≡ result_ok t → o ≡ Some x → t ≡ Ok x
-read_good (Ok y) o x e f = let q : ◌≡◌ {A = Option Tlv} (Some y) (Some x) = sym e ∙ f in cc
-read_good (Err m) o x e f = let q : ◌≡◌ {A = Option Tlv} None (Some x) = sym e ∙ f in absurd (let z : ◌≡◌ {A = ℕ} 0 1 = cc in omega arith)
-
-pub read_fault : (t : Read) (o : Option Tlv) → o ≡ result_ok t → o ≡ None → (m : Malformed) × (t ≡ Err m)
-read_fault (Ok y) o e f = let q : ◌≡◌ {A = Option Tlv} (Some y) None = sym e ∙ f in absurd (let z : ◌≡◌ {A = ℕ} 0 1 = cc in omega arith)
-read_fault (Err m) o e f = (m, refl)

@@ -11,6 +11,8 @@ ghost use Rattle.rules.specs.Limits.{max_ports};
 use rules::{MAX_MEMBERS, Members, Tlv};
 use tlv::Tlvs;
 
+const NO_MEMBERS: Members = [0; MAX_MEMBERS];
+
 // The first n numbers have this one among them. All are compared: a search that stops early takes twice as long on lists that are right.
 fn contains(lows: &Members, n: usize, low: u16) -> bool
     requires { n ≤ max_ports }
@@ -54,22 +56,30 @@ fn member(region: &[u8], vlan: u16, lows: &Members, n: usize, x: Tlv) -> Option<
     }
 }
 
-/// The low bits of the members in a region whose lengths count so many header bytes, those past the last 0. There are none where the
-/// region is not well formed, a TLV in it is no member of a group with this VLAN, or their number is not GROUP_COUNT.
-pub fn read(region: &[u8], header: usize, vlan: u16, count: u64) -> Option<Members>
+/// The low bits of the members in a region whose lengths count so many header bytes, those past the last 0.
+///
+/// # Errors
+///
+/// The list is not right for GROUP_COUNT. Where only the number of its members is another, or 0, their low bits are handed over all the
+/// same. Of a region that is not well formed, or with a TLV that is no member of a group with this VLAN, none are: each number is 0.
+pub fn read(region: &[u8], header: usize, vlan: u16, count: u64) -> Result<Members, Members>
     ensures { result ≡ listed count (members_in header region.now vlan) }
 {
-    let mut lows = [0; MAX_MEMBERS];
+    let mut lows = NO_MEMBERS;
     let mut n = 0;
     for tlv in Tlvs::new(header, region) {
-        let tlv = tlv.ok()?;
-        let low = member(region, vlan, &lows, n, tlv)?;
+        let Ok(tlv) = tlv else {
+            return Err(NO_MEMBERS);
+        };
+        let Some(low) = member(region, vlan, &lows, n, tlv) else {
+            return Err(NO_MEMBERS);
+        };
         lows[n] = low;
         n += 1;
     }
     if (1 <= count) & (n as u64 == count) {
-        Some(lows)
+        Ok(lows)
     } else {
-        None
+        Err(lows)
     }
 }

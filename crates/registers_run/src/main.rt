@@ -85,9 +85,9 @@ fn run<E: Eprint, R: Read, W: Write>(rt: &E, from: &mut R, out: &mut W) -> io::R
     let mut d = registers::none();
     let mut input = [0; 4096];
     let mut line = [0; 256];
-    let mut reader = Reader::new(from, &mut input);
+    let mut reader = Reader::new();
     for _ in 0..u64::MAX {
-        let taken = reader.take(&mut line);
+        let taken = reader.take(from, &mut input, &mut line);
         if let Err(fault) = run_taken(out, &mut d, taken.text) {
             fault.report(rt, "registers_run", reader.number())?;
         }

@@ -2,21 +2,18 @@
 -- one writing of both (`splice_on`), and a number has twenty digits at most.
 -- Assumes nothing.
 use Prim.Native.Nat.{ℕ, zero, suc, ◌+◌, ◌-◌, ◌*◌, ◌/◌, ◌%◌, ◌≤◌, ◌<◌, ◌^◌, min}
-use mathlib.Core.Bool.{false}
 use mathlib.Core.Path.{◌≡◌, refl, sym, ap, ◌∙◌}
 use mathlib.Core.List.{List, [], ◌∷◌, ◌++◌, append_assoc, append-nil}
 use native.Mathlib.Omega.{arith}
 use native.Mathlib.Nat.{pow-suc}
 use lib.ListN.{length, take, drop, set, replicate, length-append, length-set, length-drop, length-take, length-map}
 use lib.Seq.{take_all, drop-cons, drop-set-lt, get_or-set_same}
-use lib.Dec.{ltb, eqb}
+use lib.Dec.{ltb}
 use borrow.Author.Tests.{lt-ltb, le-ltb, eq-eqb, ne_eqb}
 use Rattle.std.specs.Fmt.{decimal as text_of}
 use Rattle.std.proofs.lemmas.Fmt.{AppendsLastDigit, decimal_from_appends, length-decimal-le}
 use Rattle.std.specs.Prelude.{Result, Ok, Err}
 use Rattle.rules.specs.Answers.{refusal_number}
-use Rattle.rules.specs.declared.Refusal.{Refusal}
-use Rattle.rules.specs.declared.Refusal.TheVariants.{AccessNotAllowed, ValueNotAllowed, RingEmpty, CreditsFull, DescriptorOutside, BufferShort, PortNotAllowed, NotAFrame, ListShort, CutShort, BadMark, BadVersion, BadPortCount, RecordDisagrees, TooFewRecords, RoomShort}
 use Rattle.replaying.specs.declared.replay.ReplayFault.{ReplayFault}
 use Rattle.listing.specs.declared.Listed.{Listed}
 use Rattle.rules.specs.Bytes.{splice}
@@ -27,7 +24,7 @@ use Rattle.rules.specs.Journal.{Progress as Rule, digits, decimal, item, line, r
 use Rattle.rules.specs.Journal.Replayed.{Replays, Fails}
 use Rattle.rules.specs.Undo.{word_payloads, word_bytes, undo_report}
 use Rattle.rules.proofs.Cases.{by_test}
-use Rattle.report.specs.Reporting.{Puts, told_undone}
+use Rattle.report.specs.Reporting.{Puts, told_undone, told_outcome}
 use Rattle.journal.proofs.Writing.{splice_on}
 
 -- ---- Digits
@@ -143,43 +140,34 @@ list_put count size p q =
     let f = line_short word_bytes size in
     puts_on 160 (omega arith) (simp length-append (omega arith)) p q
 
--- a refusal's number is none of a list
-refused_some : (r : Refusal) → eqb (refusal_number r) 0 ≡ false
-unfolding refusal_number
-refused_some AccessNotAllowed = refl
-refused_some ValueNotAllowed = refl
-refused_some RingEmpty = refl
-refused_some CreditsFull = refl
-refused_some DescriptorOutside = refl
-refused_some BufferShort = refl
-refused_some PortNotAllowed = refl
-refused_some NotAFrame = refl
-refused_some ListShort = refl
-refused_some CutShort = refl
-refused_some BadMark = refl
-refused_some BadVersion = refl
-refused_some BadPortCount = refl
-refused_some RecordDisagrees = refl
-refused_some TooFewRecords = refl
-refused_some RoomShort = refl
+module _ {s t : List ℕ} {r : ℕ} (answer at count size : ℕ) where
+  pub told_list : answer ≡ 0 → Puts r t 0 (line word_payloads count ++ line word_bytes size) s 160
+      → Puts r t 0 (undo_report (told_undone answer at count size)) s 160
+  unfolding undo_report
+  told_list e p = rw (eq-eqb answer 0 e) p
+
+  pub told_refused : {x : ℕ} → (answer ≡ 0 → ⊥) → 14 < answer → Puts r t 0 (line word_refused answer) s x
+      → Puts r t 0 (undo_report (told_undone answer at count size)) s 160
+  unfolding undo_report
+  told_refused e h p =
+      let f = line_short word_refused answer in
+      rw (ne_eqb answer 0 e, lt-ltb 14 answer h) (puts_same 160 refl (omega arith) p)
+
+  pub told_fault : (answer ≡ 0 → ⊥) → answer ≤ 14 → Puts r t 0 (report (Fails answer at)) s 160
+      → Puts r t 0 (undo_report (told_undone answer at count size)) s 160
+  unfolding undo_report
+  told_fault e h p = rw (ne_eqb answer 0 e, le-ltb 14 answer h) p
 
 module _ {s t : List ℕ} {r : ℕ} (u : Result Listed ReplayFault) where
-  pub told_list : (l : Listed) → u ≡ Ok l → Puts r t 0 (line word_payloads l.count ++ line word_bytes l.size) s 160
-      → Puts r t 0 (undo_report (told_undone u)) s 160
-  unfolding undo_report told_undone
-  told_list l e p = rw e p
+  pub outcome_list : (l : Listed) → u ≡ Ok l → Puts r t 0 (undo_report (told_undone 0 0 l.count l.size)) s 160
+      → Puts r t 0 (undo_report (told_outcome u)) s 160
+  unfolding told_outcome
+  outcome_list l e p = rw e p
 
-  pub told_refused : (f : ReplayFault) {n x : ℕ} → u ≡ Err f → n ≡ refusal_number f.refusal → 14 < n → Puts r t 0 (line word_refused n) s x
-      → Puts r t 0 (undo_report (told_undone u)) s 160
-  unfolding undo_report told_undone
-  told_refused f {n} e k h p =
-      let w = line_short word_refused n in
-      rw (e, refused_some f.refusal, ← k, lt-ltb 14 n h) (puts_same 160 refl (omega arith) p)
-
-  pub told_fault : (f : ReplayFault) {n : ℕ} → u ≡ Err f → n ≡ refusal_number f.refusal → n ≤ 14 → Puts r t 0 (report (Fails n f.at)) s 160
-      → Puts r t 0 (undo_report (told_undone u)) s 160
-  unfolding undo_report told_undone
-  told_fault f {n} e k h p = rw (e, refused_some f.refusal, ← k, le-ltb 14 n h) p
+  pub outcome_fault : (f : ReplayFault) {n : ℕ} → u ≡ Err f → n ≡ refusal_number f.refusal → Puts r t 0 (undo_report (told_undone n f.at 0 0)) s 160
+      → Puts r t 0 (undo_report (told_outcome u)) s 160
+  unfolding told_outcome
+  outcome_fault f e k p = rw (e, ← k) p
 
 -- ---- How many places are live
 

@@ -17,6 +17,10 @@ abbrev pub Front : ℕ → List ℕ → Type 0
 Front n s = (n ≤ length s) × (n ≡ length (take n s))
 
 -- of what undoing gives, all but the room: that is not printed
-unfoldable pub told_undone : Result Listed ReplayFault → Undone
-told_undone (Ok l) = record { answer = 0; at = 0; count = l.count; size = l.size; room = [] }
-told_undone (Err f) = record { answer = refusal_number f.refusal; at = f.at; count = 0; size = 0; room = [] }
+abbrev pub told_undone : ℕ → ℕ → ℕ → ℕ → Undone
+told_undone answer at count size = record { answer = answer; at = at; count = count; size = size; room = [] }
+
+-- the same of a result
+unfoldable pub told_outcome : Result Listed ReplayFault → Undone
+told_outcome (Ok l) = record { answer = 0; at = 0; count = l.count; size = l.size; room = [] }
+told_outcome (Err f) = record { answer = refusal_number f.refusal; at = f.at; count = 0; size = 0; room = [] }

@@ -9,7 +9,7 @@ ghost use Rattle.rules.specs.Undo.{word_payloads, word_bytes, undo_report};
 ghost use Rattle.replaying.specs.Reading.{progress_of};
 ghost use Rattle.replaying.specs.Replaying.{result_of};
 ghost use Rattle.tables.specs.Arrays.{arrays_of};
-ghost use Rattle.report.specs.Reporting.{Front, Puts, told_undone};
+ghost use Rattle.report.specs.Reporting.{Front, Puts, told_undone, told_outcome};
 
 use itoa::Buffer;
 use journal::put_bytes;
@@ -107,20 +107,27 @@ fn put_list(out: &mut [u8], count: u64, size: u64) -> usize
     put_line(out, a, b"bytes", size)
 }
 
-// The same of an undone journal: its list's two lines, or the fault; 15 and 16 have no line of the journal.
-pub fn undone(out: &mut [u8; 160], u: Result<Listed, ReplayFault>) -> usize
-    ensures puts { Puts result out.new 0 (undo_report (told_undone u)) out.old 160 }
+/// The same of an undone journal: its list's two lines, or the fault; 15 and 16 have no line of the journal.
+pub fn undone(out: &mut [u8; 160], answer: u64, at: u64, count: u64, size: u64) -> usize
+    ensures puts { Puts result out.new 0 (undo_report (told_undone answer at count size)) out.old 160 }
+    ensures front { Front result out.new }
+{
+    if answer == 0 {
+        put_list(out, count, size)
+    } else if 14 < answer {
+        put_line(out, 0, b"refused", answer)
+    } else {
+        put_fault(out, answer, at)
+    }
+}
+
+/// The same of what undoing gives.
+pub fn undo_outcome(out: &mut [u8; 160], u: Result<Listed, ReplayFault>) -> usize
+    ensures puts { Puts result out.new 0 (undo_report (told_outcome u)) out.old 160 }
     ensures front { Front result out.new }
 {
     match u {
-        Ok(listed) => put_list(out, listed.count, listed.size as u64),
-        Err(fault) => {
-            let answer = answers::refusal_number(fault.refusal);
-            if 14 < answer {
-                put_line(out, 0, b"refused", answer)
-            } else {
-                put_fault(out, answer, fault.at)
-            }
-        }
+        Ok(listed) => undone(out, 0, 0, listed.count, listed.size as u64),
+        Err(fault) => undone(out, answers::refusal_number(fault.refusal), fault.at, 0, 0),
     }
 }

@@ -53,12 +53,14 @@ impl Console {
     fn run<E: Eprint, R: Read, W: Write>(
         &mut self,
         rt: &E,
-        reader: &mut Reader<'_, R>,
+        from: &mut R,
+        input: &mut [u8],
         line: &mut [u8],
         out: &mut W,
     ) -> Result<(), Failure> {
+        let mut reader = Reader::new();
         for _ in 0..u64::MAX {
-            let taken = reader.take(line);
+            let taken = reader.take(from, input, line);
             if let End::Failure(e) = taken.end {
                 return Err(Failure::Input(e));
             }
@@ -125,8 +127,7 @@ pub fn run_from<E: Eprint, R: Read, W: Write>(rt: &E, from: &mut R, name: &str, 
     };
     let mut input = [0; 65536];
     let mut line = [0; 65535];
-    let mut reader = Reader::new(from, &mut input);
-    match console.run(rt, &mut reader, &mut line, out) {
+    match console.run(rt, from, &mut input, &mut line, out) {
         Ok(()) => {}
         Err(Failure::Input(e)) => fail(rt, name, &e),
         Err(Failure::Output(e)) => fail(rt, "standard output", &e),

@@ -11,12 +11,13 @@ use lib.Dec.{eqb}
 use lib.ListN.{length, take, drop, get_or, set, length-take, drop_of_length-le}
 use lib.Seq.{drop-cons, take-set-lt}
 use borrow.Author.Tests.{lt-ltb, le-ltb, eq-eqb, ne_eqb}
-use Rattle.std.specs.Prelude.{Result, Ok, Err, IfOk}
+use Rattle.std.specs.Prelude.{Result, Ok, Err, IfOk, IfErr, ◌≢◌}
 use Rattle.rules.specs.Keyed.{insert_at, without, position, holds, insert, replace, remove}
 use Rattle.rules.specs.Answers.{code}
 use Rattle.rules.specs.Tables.{add_status, held_status}
 use Rattle.rules.specs.declared.Status.{Status}
 use Rattle.rules.specs.declared.Status.TheVariants.{Enoent, Enomem, Eexist}
+use Rattle.rules.specs.declared.Status.TheVariants.{Ok as Fine}
 use Rattle.rules.proofs.Cases.{by_test, by_lt, by_le}
 use Rattle.rules.proofs.Keyed.{holds_lt, insert_at_lem, replace_at, remove_at}
 use Rattle.tables.specs.Commands.{place_of, free_of, free_place_of, held_place_of}
@@ -124,6 +125,12 @@ module _ {A : Type 0} (key : A → ℕ) where
         by_test (holds key k l)
         (λ h. let s : ◌≡◌ {A = Result ℕ Status} (Err e) (Ok (position key k l)) = simp h at is in (cc))
         (λ h. let s : ◌≡◌ {A = Result ℕ Status} (Err e) (Err Enoent) = simp h at is in let f : e ≡ Enoent = cc in (simp h f, λ z. omega (arith, z, ap code f)))
+
+-- the error of a search is never the status OK
+pub held_refusal : {A : Type 0} (key : A → ℕ) (k : ℕ) (l : List A) (r : Result ℕ Status) → r ≡ held_place_of key k l → IfErr r (λ e. e ≢ Fine)
+unfolding code
+held_refusal key k l (Ok at) is = tt
+held_refusal key k l (Err e) is = λ z. (held_fails key k l e is).1 (ap code z)
 
 -- a key that is held stands at one of the live entries
 pub held_lt : {A : Type 0} {key : A → ℕ} {slots k n at : ℕ} {l : List A} {held : Bool} → Sought key slots k n l at held → held ≡ true → at < n

@@ -1,4 +1,6 @@
 // The commands on the group table. A group stands in two arrays at one index: its head, and its 62 members, which are stored whole.
+ghost use Rattle.std.specs.Prelude.{◌≢◌, IfErr};
+ghost use Rattle.rules.specs.declared.Status.TheVariants.{Ok};
 ghost use Rattle.rules.specs.Rows.{id_in};
 ghost use Rattle.rules.specs.Tables.{id_of};
 ghost use Rattle.std.specs.Result.{result_unwrap_or};
@@ -24,7 +26,8 @@ pub fn group_add(
     count: usize,
     g: GroupEntry,
 ) -> Result<usize, Status>
-    ensures { Added groups_in id_of max_groups (group_places count heads.old members.old) g (status_of result) (group_places (result_unwrap_or result count) heads.new members.new) }
+    ensures outcome { Added groups_in id_of max_groups (group_places count heads.old members.old) g (status_of result) (group_places (result_unwrap_or result count) heads.new members.new) }
+    ensures refusal { IfErr result (λ e. e ≢ Ok) }
 {
     let at = free_place(&heads[..], count, u64::from(g.id))?;
     let live = count.min(MAX_GROUPS);
@@ -40,7 +43,8 @@ pub fn group_mod(
     count: usize,
     g: GroupEntry,
 ) -> Result<usize, Status>
-    ensures { Modded groups_in id_of max_groups (group_places count heads.old members.old) g (status_of result) (group_places (result_unwrap_or result count) heads.new members.new) }
+    ensures outcome { Modded groups_in id_of max_groups (group_places count heads.old members.old) g (status_of result) (group_places (result_unwrap_or result count) heads.new members.new) }
+    ensures refusal { IfErr result (λ e. e ≢ Ok) }
 {
     let at = held_place(&heads[..], count, u64::from(g.id))?;
     heads[at] = rows::head_of(g);
@@ -56,7 +60,8 @@ pub fn group_del(
     count: usize,
     id: u32,
 ) -> Result<usize, Status>
-    ensures { Deleted groups_in id_of max_groups (group_places count heads.old members.old) id (status_of result) (group_places (result_unwrap_or result count) heads.new members.new) }
+    ensures outcome { Deleted groups_in id_of max_groups (group_places count heads.old members.old) id (status_of result) (group_places (result_unwrap_or result count) heads.new members.new) }
+    ensures refusal { IfErr result (λ e. e ≢ Ok) }
 {
     let at = held_place(&heads[..], count, u64::from(id))?;
     let live = count.min(MAX_GROUPS);

@@ -1,5 +1,6 @@
 // Places in rising order of their keys, the live ones in front: where a key stands or belongs, and a place opened or closed among them.
-ghost use Rattle.std.specs.Prelude.{ℕ, ◌≡◌, ◌≤◌, ◌<◌, ◌+◌, ◌-◌, min, length, take, IfOk};
+ghost use Rattle.std.specs.Prelude.{ℕ, ◌≡◌, ◌≤◌, ◌<◌, ◌+◌, ◌-◌, min, length, take, IfOk, IfErr, ◌≢◌};
+ghost use Rattle.rules.specs.declared.Status.TheVariants.{Ok};
 ghost use Rattle.rules.specs.Keyed.{insert_at, without};
 ghost use Rattle.tables.specs.Commands.{place_of, free_place_of, held_place_of};
 
@@ -38,6 +39,7 @@ pub fn place<P: Keyed>(live: &[P], key: u64) -> Result<usize, usize>
 pub fn free_place<P: Keyed>(places: &[P], count: usize, key: u64) -> Result<usize, Status>
     ensures place { result ≡ free_place_of P.key (length places.now) key (take count places.now) }
     ensures within { IfOk result (λ at. (at ≤ min count (length places.now)) × (min count (length places.now) < length places.now)) }
+    ensures refusal { IfErr result (λ e. e ≢ Ok) }
 {
     let live = live(places, count);
     match place(live, key) {
@@ -51,6 +53,7 @@ pub fn free_place<P: Keyed>(places: &[P], count: usize, key: u64) -> Result<usiz
 pub fn held_place<P: Keyed>(places: &[P], count: usize, key: u64) -> Result<usize, Status>
     ensures place { result ≡ held_place_of P.key key (take count places.now) }
     ensures within { IfOk result (λ at. at < min count (length places.now)) }
+    ensures refusal { IfErr result (λ e. e ≢ Ok) }
 {
     place(live(places, count), key).or(Err(Status::Enoent))
 }
@@ -60,7 +63,9 @@ pub fn open<P: Copy>(places: &mut [P], live: usize, at: usize, entry: P)
     requires { (at ≤ live) × (live < length places.old) }
     ensures { (take (live + 1) places.new ≡ insert_at at entry (take live places.old)) × (length places.new ≡ length places.old) }
 {
-    places.copy_within(at..live, at + 1);
+    for place in (at..live).rev() {
+        places[place + 1] = places[place];
+    }
     places[at] = entry;
 }
 
@@ -69,5 +74,7 @@ pub fn close<P: Copy>(places: &mut [P], live: usize, at: usize)
     requires { (at < live) × (live ≤ length places.old) }
     ensures { (take (live - 1) places.new ≡ without at (take live places.old)) × (length places.new ≡ length places.old) }
 {
-    places.copy_within(at + 1..live, at);
+    for place in at..live - 1 {
+        places[place] = places[place + 1];
+    }
 }

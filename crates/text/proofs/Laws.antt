@@ -99,7 +99,7 @@ module _ (base b : ℕ) (h : base ≤ 16) where
   a_digit_given r d e k = let j = rw e at k in (below_base j.0, j.1 ∙ digit_is b (omega (arith, j.0)))
 
 -- more digits make no less
-value_grows : (base v : ℕ) (s : List ℕ) → 0 < base → v ≤ value_from base v s
+pub value_grows : (base v : ℕ) (s : List ℕ) → 0 < base → v ≤ value_from base v s
 unfolding value_from
 value_grows base v [] h = omega arith
 value_grows base v (b ∷ s) h =

@@ -20,11 +20,11 @@ use Rattle.tlv.specs.declared.reader.Malformed.{Malformed}
 use Rattle.tlv.specs.Index.{size_at, found_at, marked, noted, Indexed}
 use Rattle.tlv.specs.Reading.{Read, reads, left}
 
--- the TLVs among what is read, and whether there is no fault
+-- the TLVs in front of a fault, or all where there is none, and whether there is none
 abbrev pub good : List Read → List Tlv
 good [] = []
 good (Ok x ∷ rest) = x ∷ good rest
-good (Err m ∷ rest) = good rest
+good (Err m ∷ rest) = []
 
 abbrev pub faultless : List Read → Bool
 faultless [] = true
@@ -157,10 +157,12 @@ module _ {h : ℕ} {s : List ℕ} {x : Tlv} {rest : List Read} {places : List �
     counts = noted_counts;
   }
 
--- nothing is left, or a fault
+-- nothing is left, or a fault and no TLV in front of it
 pub indexing_ends : {h : ℕ} {s places : List ℕ} → Indexing h s [] places → (Indexed h s places) × (true ≡ well_formed h s)
 unfolding scan
 indexing_ends i = (record { tells = λ t w b. sym (i.finds t w b); counts = i.counts }, i.whole)
 
-pub indexing_fails : {h : ℕ} {s : List ℕ} {m : Malformed} {rest : List Read} {places : List ℕ} → Indexing h s (Err m ∷ rest) places → false ≡ well_formed h s
-indexing_fails i = i.whole
+pub indexing_fails : {h : ℕ} {s : List ℕ} {m : Malformed} {rest : List Read} {places : List ℕ} → Indexing h s (Err m ∷ rest) places
+    → (Indexed h s places) × (false ≡ well_formed h s)
+unfolding scan
+indexing_fails i = (record { tells = λ t w b. sym (i.finds t w b); counts = i.counts }, i.whole)

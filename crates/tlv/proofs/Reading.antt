@@ -22,7 +22,7 @@ use Rattle.tlv.specs.Reading.{Read, fault, front, left}
 clash : {G : Type 0} → ◌≡◌ {A = ℕ} 0 1 → G
 clash e = absurd (omega arith)
 
-module _ (h : ℕ) (s : List ℕ) (at : ℕ) (inside : at ≤ length s) where
+module _ (h : ℕ) (s : List ℕ) (at : ℕ) where
   -- what stands at a position, by the rule: a TLV, or none
   abbrev Told : Read → Type 0
   Told r = (x : Tlv) → Ok x ≡ r → step_at h s at ≡ Next x
@@ -33,13 +33,15 @@ module _ (h : ℕ) (s : List ℕ) (at : ℕ) (inside : at ≤ length s) where
   told : (Told (front h s at)) × (Untold (front h s at))
   unfolding value_size tlv_at tlv_end filled
   told =
-      by_lt (length s - at) 8
+      by_lt (length s) 8
       (λ a p. rw p (λ x e. clash cc, λ m e. too_long h s at (omega arith)))
-      (λ a p. rw p (by_lt (le_at 2 s (at + 4)) h
-      (λ b q. rw q (λ x e. clash cc, λ m e. under h s at b))
-      (λ b q. rw q (by_lt (length s - at - 8) (filled (le_at 2 s (at + 4) - h))
-      (λ d r. rw r (λ x e. clash cc, λ m e. too_long h s at (omega arith)))
-      (λ d r. rw r (λ x e. (let w = step_next h s at (is_tlv_lem h s at b (omega arith)) in cc), λ m e. clash cc))))))
+      (λ a p. rw p (by_lt (length s - 8) at
+      (λ b q. rw q (λ x e. clash cc, λ m e. too_long h s at (omega arith)))
+      (λ b q. rw q (by_lt (le_at 2 s (at + 4)) h
+      (λ c r. rw r (λ x e. clash cc, λ m e. under h s at c))
+      (λ c r. rw r (by_lt (length s - 8 - at) (filled (le_at 2 s (at + 4) - h))
+      (λ d t. rw t (λ x e. clash cc, λ m e. too_long h s at (omega arith)))
+      (λ d t. rw t (λ x e. (let w = step_next h s at (is_tlv_lem h s at c (omega arith)) in cc), λ m e. clash cc))))))))
 
   pub front_is : (x : Tlv) → Ok x ≡ front h s at → step_at h s at ≡ Next x
   front_is = told.0

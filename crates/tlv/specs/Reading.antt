@@ -15,9 +15,10 @@ fault = Err (record {})
 -- the TLV at a position, if it stands there whole: its header, a length that counts that, and the value with its fill
 abbrev pub front : ℕ → List ℕ → ℕ → Read
 front h s at =
-    if nat_lt (length s - at) 8 then fault
+    if nat_lt (length s) 8 then fault
+    else if nat_lt (length s - 8) at then fault
     else if nat_lt (le_at 2 s (at + 4)) h then fault
-    else if nat_lt (length s - at - 8) (filled (le_at 2 s (at + 4) - h)) then fault
+    else if nat_lt (length s - 8 - at) (filled (le_at 2 s (at + 4) - h)) then fault
     else Ok (record { kind = le_at 4 s at; start = at + 8; size = le_at 2 s (at + 4) - h })
 
 -- TLVs that cover what they are read from, or do not

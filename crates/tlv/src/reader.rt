@@ -4,11 +4,11 @@ ghost use Rattle.std.specs.Prelude.{◌≡◌, ◌≤◌, ◌<◌, ◌^◌, List
 ghost use Rattle.std.specs.Iterator.{YieldsFirstBy, item_count};
 ghost use Rattle.rules.specs.declared.Tlv.{Tlv};
 ghost use Rattle.rules.specs.declared.Status.TheVariants.{Einval};
-ghost use Rattle.rules.specs.Region.{value_size, filled};
+ghost use Rattle.rules.specs.Region.{value_size, filled, step_at, after};
 ghost use Rattle.tlv.specs.declared.reader.Malformed.{Malformed};
 ghost use Rattle.tlv.specs.Reading.{front, left};
 
-use rules::{Status, Tlv};
+use rules::{Status, Step, Tlv};
 use std::marker::Model;
 
 /// Bytes of a region that are no whole TLV. A command with such a region is answered EINVAL.
@@ -40,12 +40,13 @@ fn filled(n: usize) -> usize
     (n + 7) / 8 * 8
 }
 
-// The TLV at a position, if it stands there whole with its fill.
+// The TLV at a position, if it stands there whole with its fill. The position is compared with the last one that has a header's bytes behind
+// it: so the compiler knows that these are inside, and reads them with no test of each.
 fn front(header: usize, region: &[u8], at: usize) -> Result<Tlv, Malformed>
-    requires { at ≤ length region.now }
     ensures { result ≡ front header region.now at }
 {
-    let room = (region.len() - at).checked_sub(8).ok_or(Malformed)?;
+    let last = region.len().checked_sub(8).ok_or(Malformed)?;
+    let room = last.checked_sub(at).ok_or(Malformed)?;
     let size = usize::from(wire::le::<u16>(region, at + 4))
         .checked_sub(header)
         .ok_or(Malformed)?;
@@ -60,7 +61,7 @@ fn front(header: usize, region: &[u8], at: usize) -> Result<Tlv, Malformed>
 }
 
 /// The TLVs of a region from a position on. Bytes that are no whole TLV are an error, and the last item.
-#[derive(Drop)]
+#[derive(Clone, Drop)]
 pub struct Tlvs<'a> {
     header: usize,
     region: &'a [u8],
@@ -109,5 +110,54 @@ impl<'a> Iterator for Tlvs<'a> {
                 Some(Err(e))
             }
         }
+    }
+}
+
+// Where the next step is made, after one at a position.
+fn after(at: usize, step: Step) -> usize
+    requires { after at step < 2 ^ 64 }
+    ensures { result ≡ after at step }
+{
+    match step {
+        Step::Next(tlv) => tlv.start + filled(tlv.size),
+        Step::End | Step::Fault => at,
+    }
+}
+
+/// A borrowed region and a position in it, for who goes over its TLVs by steps: it is passed by value, and a step leaves it where it was.
+#[derive(Clone, Copy)]
+pub struct Reader<'a> {
+    payload: &'a [u8],
+    at: usize,
+}
+
+/// The reader at a position, which may lie past the region's end.
+pub fn new<'a>(payload: &'a [u8], at: usize) -> Reader<'a>
+    ensures { (result.payload ≡ payload.entry) × (result.at ≡ at) }
+{
+    Reader { payload, at }
+}
+
+/// The TLV at the position, the end or a fault.
+pub fn next<'a>(r: Reader<'a>, header: usize) -> Step
+    ensures { result ≡ step_at header r.entry.payload.now r.entry.at }
+{
+    if r.at == r.payload.len() {
+        return Step::End;
+    }
+    match front(header, r.payload, r.at) {
+        Ok(tlv) => Step::Next(tlv),
+        Err(_) => Step::Fault,
+    }
+}
+
+/// The reader past the step that was read at its position.
+pub fn skip<'a>(r: Reader<'a>, step: Step) -> Reader<'a>
+    requires { after r.at step < 2 ^ 64 }
+    ensures { (result.payload ≡ r.entry.payload) × (result.at ≡ after r.entry.at step) }
+{
+    Reader {
+        payload: r.payload,
+        at: after(r.at, step),
     }
 }

@@ -33,7 +33,7 @@ fn help<T: Print + Eprint>(rt: &T) {
 
 fn print<T: Print + Eprint>(rt: &T, u: Undone) {
     let mut text = [0u8; 160];
-    let n = report::undone(&mut text, u);
+    let n = report::undo_outcome(&mut text, u);
     if let Err(e) = Print::write_all(rt, &text[..n]) {
         files::tell(rt, "standard output", &e);
     }

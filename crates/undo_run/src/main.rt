@@ -91,7 +91,7 @@ fn print_outcome<W: Write>(out: &mut W, u: Undone) -> io::Result<()> {
         return print::end(out);
     }
     let mut text = [0u8; 160];
-    let n = report::undone(&mut text, u);
+    let n = report::undo_outcome(&mut text, u);
     out.write_all(&text[..n])
 }
 

@@ -6,11 +6,11 @@ use Rattle.rules.specs.Tables.{arrays}
 use Rattle.execute.proofs.Carried.{group_removed}
 use Rattle.execute.proofs.group_del.Goals as goal
 
-pub returns : goal.returns
-returns c = λ m. record { flows_kept = refl; commands = λ flows. group_removed _ (arrays flows _ _) m _ _ _ _ _ c.in_ok-groups.ensures }
+pub returns-clause-outcome : goal.returns-clause-outcome
+returns-clause-outcome c = λ m. record { flows_kept = refl; commands = λ flows. group_removed _ (arrays flows _ _) m _ _ _ _ _ c.in_ok-groups.ensures.outcome }
 
-pub returns-in_err-groups : goal.returns-in_err-groups
-returns-in_err-groups c =
+pub returns-in_err-groups-clause-outcome : goal.returns-in_err-groups-clause-outcome
+returns-in_err-groups-clause-outcome c =
     let p = err_from_is_err_and c.from_residual.result c.from_residual.ensures.1 in
     rw (p.1, p.2)
-    (λ m. record { flows_kept = refl; commands = λ flows. group_removed _ (arrays flows _ _) m _ _ _ _ _ c.in_err-groups.ensures })
+    (λ m. record { flows_kept = refl; commands = λ flows. group_removed _ (arrays flows _ _) m _ _ _ _ _ c.in_err-groups.ensures.outcome })

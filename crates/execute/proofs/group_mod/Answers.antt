@@ -6,12 +6,12 @@ use Rattle.rules.specs.Tables.{arrays}
 use Rattle.execute.proofs.Carried.{group_replaced}
 use Rattle.execute.proofs.group_mod.Goals as goal
 
-pub returns : goal.returns
-returns c =
-    record { flows_kept = refl; commands = λ flows. group_replaced _ (arrays flows _ _) _ _ _ _ _ _ _ c.group_entry.ensures c.in_ok-groups.ensures }
+pub returns-clause-outcome : goal.returns-clause-outcome
+returns-clause-outcome c =
+    record { flows_kept = refl; commands = λ flows. group_replaced _ (arrays flows _ _) _ _ _ _ _ _ _ c.group_entry.ensures c.in_ok-groups.ensures.outcome }
 
-pub returns-in_err-groups : goal.returns-in_err-groups
-returns-in_err-groups c =
+pub returns-in_err-groups-clause-outcome : goal.returns-in_err-groups-clause-outcome
+returns-in_err-groups-clause-outcome c =
     let p = err_from_is_err_and c.from_residual.result c.from_residual.ensures.1 in
     rw (p.1, p.2)
-    (record { flows_kept = refl; commands = λ flows. group_replaced _ (arrays flows _ _) _ _ _ _ _ _ _ c.group_entry.ensures c.in_err-groups.ensures })
+    (record { flows_kept = refl; commands = λ flows. group_replaced _ (arrays flows _ _) _ _ _ _ _ _ _ c.group_entry.ensures c.in_err-groups.ensures.outcome })

@@ -1,5 +1,4 @@
 use Rattle.std.proofs.Common.{sym, subst, ap, ◌∙◌, ◌∷◌, List}
-use Rattle.std.proofs.lemmas.Result.{err_from_is_err_and}
 use Rattle.tlv.specs.Reading.{Read}
 use Rattle.tlv.proofs.Indexing.{Indexing, indexing_starts, indexing_next, indexing_ends, indexing_fails}
 use Rattle.tlv.proofs.index_of.Goals as goal
@@ -12,19 +11,19 @@ loop-tlv-init c =
 
 pub loop-tlv-preserved : goal.loop-tlv-preserved
 loop-tlv-preserved c =
-    let e = c.in-Some.ensures.steps ∙ ap (λ (r : Read). r ∷ c.next.new.self) c.in_ok-tlv.was in
+    let e = c.in-Some.ensures.steps ∙ ap (λ (r : Read). r ∷ c.next.new.self) c.in-Ok.is in
     let i = subst (λ (rest : List Read). Indexing c.args.header c.args.region.now rest c.loop-tlv.places) e c.loop-tlv.invariant in
     rw c.note.ensures (indexing_next i)
 
-pub returns-in_err-tlv-clause-whole : goal.returns-in_err-tlv-clause-whole
-returns-in_err-tlv-clause-whole c =
-    let e = c.in-Some.ensures.steps ∙ ap (λ (r : Read). r ∷ c.next.new.self) c.in_err-tlv.was in
+pub returns-in-Err : goal.returns-in-Err
+returns-in-Err c =
+    let e = c.in-Some.ensures.steps ∙ ap (λ (r : Read). r ∷ c.next.new.self) c.in-Err.is in
     let i = subst (λ (rest : List Read). Indexing c.args.header c.args.region.now rest c.loop-tlv.places) e c.loop-tlv.invariant in
-    let p = err_from_is_err_and c.from_residual.result c.from_residual.ensures.1 in
-    rw p.1 (indexing_fails i)
+    let f = indexing_fails i in
+    record { right = tt; partial = f.0; whole = f.1 }
 
 pub returns : goal.returns
 returns c =
     let i = subst (λ (rest : List Read). Indexing c.args.header c.args.region.now rest c.loop-tlv.places) c.in-None.ensures.steps.0 c.loop-tlv.invariant in
     let e = indexing_ends i in
-    record { right = e.0; whole = e.1 }
+    record { right = e.0; partial = tt; whole = e.1 }

@@ -1,3 +1,5 @@
+use Rattle.std.proofs.Common.{ap, ◌∙◌}
+use Rattle.std.specs.Result.{result_ok}
 use Rattle.command.specs.Answer.{lows_of}
 use Rattle.rules.specs.Decode.{members_of}
 use Rattle.rules.specs.Members.{pad}
@@ -24,4 +26,4 @@ pub returns : goal.returns
 unfolding lows_of members_of
 returns c =
     let r = rw (c.value.ensures, c.nest.ensures, c.header.ensures, c.vlan_of.ensures) at c.read.ensures in
-    simp (← c.type_of-t.ensures, ne_eqb _ _ c.if-t-eq0.false, ← c.is_routing.ensures, c.if-is_routing.false) r
+    simp (← c.type_of-t.ensures, ne_eqb _ _ c.if-t-eq0.false, ← c.is_routing.ensures, c.if-is_routing.false) (c.ok.ensures.value ∙ ap result_ok r)

@@ -9,16 +9,16 @@ use Rattle.tables.proofs.Search.{free_sought}
 use Rattle.tables.proofs.InPlace.{added, not_free}
 use Rattle.tables.proofs.flows.flow_add.Goals as goal
 
-pub returns-in_err-at : goal.returns-in_err-at
+pub returns-in_err-at-clause-outcome : goal.returns-in_err-at-clause-outcome
 unfolding entry_in
-returns-in_err-at c =
+returns-in_err-at-clause-outcome c =
     let a = c.args in
     let p = err_from_is_err_and c.from_residual.result c.from_residual.ensures.1 in
     rw (p.1, p.2) (not_free (live entry_in) entry_in cookie_of 256 _ a.count a.rows.now refl a.e.cookie c.in_err-at.field-0.0 c.told-rows c.in_err-at.ensures.place)
 
-pub returns : goal.returns
+pub returns-clause-outcome : goal.returns-clause-outcome
 unfolding entry_in
-returns c =
+returns-clause-outcome c =
     let a = c.args in
     let s = free_sought cookie_in 256 a.e.cookie a.count a.rows.now c.told-rows c.in_ok-at.at c.in_ok-at.ensures.place in
     rw c.min-live.ensures (added (live entry_in) entry_in cookie_of 256 _ a.count a.rows.now refl c.row_of.result c.row_of.ensures s.0 c.open.new.places refl refl s.1 (rw c.min-live.ensures at c.open.ensures.0))

@@ -12,9 +12,9 @@ use Rattle.tables.proofs.Beside.{free_beside, opened_beside}
 use Rattle.tables.proofs.InPlace.{added, not_free}
 use Rattle.tables.proofs.groups.group_add.Goals as goal
 
-pub returns-in_err-at : goal.returns-in_err-at
+pub returns-in_err-at-clause-outcome : goal.returns-in_err-at-clause-outcome
 unfolding groups_in
-returns-in_err-at c =
+returns-in_err-at-clause-outcome c =
     let a = c.args in
     let p = err_from_is_err_and c.from_residual.result c.from_residual.ensures.1 in
     let hs = a.heads.now in
@@ -25,9 +25,9 @@ returns-in_err-at c =
     (length_beside hs ms even ∙ c.told-heads)
     ((rw c.from.ensures at c.in_err-at.ensures.place) ∙ free_beside a.count a.g.id hs ms even))
 
-pub returns : goal.returns
+pub returns-clause-outcome : goal.returns-clause-outcome
 unfolding groups_in
-returns c =
+returns-clause-outcome c =
     let a = c.args in
     let hs = a.heads.now in
     let ms = a.members.now in

@@ -9,5 +9,5 @@ pub filled-requires : goal.filled-requires
 unfolding filled
 filled-requires c =
     let a = c.args in
-    let short = left_over _ _ _ _ _ _ c.checked_sub-2.ensures c.ok_or-2.ensures.value c.in_ok-size.was in
+    let short = left_over _ _ _ _ _ _ c.checked_sub-3.ensures c.ok_or-3.ensures.value c.in_ok-size.was in
     omega (arith, short, c.from.ensures, c.le.ensures, le_at_below 2 a.region.now (a.at + 4) (λ j. (c.type_inv.region j).fits))

@@ -11,31 +11,31 @@ returns-then-self-clause-steps c = let none = sym c.self.view_is ∙ left_end _ 
 pub filled-requires : goal.filled-requires
 unfolding tlv_end
 filled-requires c =
-    let v = step_inside _ _ _ _ (front_is _ _ _ c.self.invariant _ c.in-Ok.ensures) in
+    let v = step_inside _ _ _ _ (front_is c.self.inside.header c.self.inside.region.now c.self.inside.at _ c.in-Ok.ensures) in
     omega (arith, v.fits)
 
 pub overflow_add-self : goal.overflow_add-self
 unfolding tlv_end
 overflow_add-self c =
-    let v = step_inside _ _ _ _ (front_is _ _ _ c.self.invariant _ c.in-Ok.ensures) in
+    let v = step_inside _ _ _ _ (front_is c.self.inside.header c.self.inside.region.now c.self.inside.at _ c.in-Ok.ensures) in
     record { fits = omega (arith, v.fits, c.filled.ensures) }
 
 pub invariant_of-self : goal.invariant_of-self
 unfolding tlv_end
 invariant_of-self c =
-    let v = step_inside _ _ _ _ (front_is _ _ _ c.self.invariant _ c.in-Ok.ensures) in
+    let v = step_inside _ _ _ _ (front_is c.self.inside.header c.self.inside.region.now c.self.inside.at _ c.in-Ok.ensures) in
     omega (arith, v.fits, c.filled.ensures)
 
 pub returns-in-Ok-clause-steps : goal.returns-in-Ok-clause-steps
 unfolding tlv_end
-returns-in-Ok-clause-steps c = sym c.self.view_is ∙ left_next _ _ _ _ (front_is _ _ _ c.self.invariant _ c.in-Ok.ensures) ∙ rw c.filled.ensures
+returns-in-Ok-clause-steps c = sym c.self.view_is ∙ left_next _ _ _ _ (front_is c.self.inside.header c.self.inside.region.now c.self.inside.at _ c.in-Ok.ensures) ∙ rw c.filled.ensures
 
 pub returns-in-Ok-clause-goes : goal.returns-in-Ok-clause-goes
 returns-in-Ok-clause-goes c = goes_first (returns-in-Ok-clause-steps c)
 
 pub returns-in-Err-clause-steps : goal.returns-in-Err-clause-steps
 returns-in-Err-clause-steps c =
-    sym c.self.view_is ∙ left_fault _ _ _ (front_not _ _ _ c.self.invariant _ c.in-Err.ensures) c.if-self.false ∙ ap (λ rest. Err c.in-Err.e ∷ rest) (sym (left_end c.self.inside.header c.self.inside.region.now _ refl))
+    sym c.self.view_is ∙ left_fault _ _ _ (front_not c.self.inside.header c.self.inside.region.now c.self.inside.at _ c.in-Err.ensures) c.if-self.false ∙ ap (λ rest. Err c.in-Err.e ∷ rest) (sym (left_end c.self.inside.header c.self.inside.region.now _ refl))
 
 pub returns-in-Err-clause-goes : goal.returns-in-Err-clause-goes
 returns-in-Err-clause-goes c = goes_first (returns-in-Err-clause-steps c)

@@ -1,0 +1,6 @@
+use lib.ListN.{length}
+use Rattle.tables.proofs.Slots.{Shifted}
+use Rattle.tables.proofs.places.open.Given as goal
+
+abbrev pub invariant-loop-place : goal.invariant-loop-place
+invariant-loop-place g l = Shifted (length l.initial.places) l.at l.live l.live l.place l.initial.places l.places
